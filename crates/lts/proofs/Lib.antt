@@ -1,0 +1,11 @@
+pub mod Refine
+pub mod Bounded
+pub mod System
+pub mod Step
+pub mod Count
+pub mod Run
+pub mod Rounds
+pub mod Game
+pub mod Strategy
+pub mod Union
+pub mod Cases

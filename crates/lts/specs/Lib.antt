@@ -1,0 +1,10 @@
+pub mod Bounded
+pub mod System
+pub mod Refinement
+pub mod Rounds
+pub mod Strategy
+pub mod Game
+pub mod Union
+pub mod Refusal
+pub mod Table
+pub mod Demand
