@@ -2,13 +2,13 @@
 use Prim.Native.Nat.{ℕ, zero, suc, _+_, _*_, _≤_, _<_, zero-le, suc-le-suc}
 use native.Mathlib.Nat.{le-refl, le-trans, le-step, lt-suc-self, not-suc-le-zero, le-of-suc-le-suc, zero-lt-suc, add-le-add}
 use native.Mathlib.Omega.{arith}
-use mathlib.Core.Path.{_≡_, sym, subst}
+use mathlib.Core.Path.{_≡_, refl, sym, _∙_, ap, subst, fun-ext}
 use mathlib.Core.Logic.{_⊎_, inl, inr}
 use mathlib.Core.Bool.{Bool, true, false, cond, _||_}
 use mathlib.Core.List.{List, [], _∷_, _++_}
 use lib.Dec.{T}
 use lib.ListN.{length, getD, length-append}
-use Rattle.lts.specs.Bounded.{anyBelow, sumBelow, countBelow, passing, lowest}
+use Rattle.lts.specs.Bounded.{anyBelow, sumBelow, countBelow, passing, concatBelow, lowest}
 use Rattle.lts.proofs.Bounded.{below-suc}
 
 pub sum-le : (n : ℕ) (f g : ℕ → ℕ) → ((i : ℕ) → i < n → f i ≤ g i) → sumBelow n f ≤ sumBelow n g
@@ -37,6 +37,15 @@ pub sum-least : (n : ℕ) (f : ℕ → ℕ) → ((i : ℕ) → i < n → 1 ≤ f
 unfolding sumBelow
 sum-least zero f h = zero-le
 sum-least (suc n) f h = let t = sum-least n f (λ i l. h i (le-step l)) in omega (arith, t, h n (lt-suc-self n))
+
+pub sum-cong : (n : ℕ) (f g : ℕ → ℕ) → ((i : ℕ) → f i ≡ g i) → sumBelow n f ≡ sumBelow n g
+sum-cong n f g h = ap (sumBelow n) (fun-ext h)
+
+-- the length of lists one after the other
+pub length-concat {ℓ} : {A : Type ℓ} (n : ℕ) (f : ℕ → List A) → length (concatBelow n f) ≡ sumBelow n (λ i. length (f i))
+unfolding concatBelow sumBelow
+length-concat zero f = refl
+length-concat (suc n) f = length-append (concatBelow n f) (f n) ∙ ap (λ (k : ℕ). k + length (f n)) (length-concat n f)
 
 one-le : (a b : Bool) → (T a → T b) → cond a 1 0 ≤ cond b 1 0
 one-le true true h = le-refl 1

@@ -90,3 +90,7 @@ module _ (L : Lts) (wf : WellFormed L) (preorder : Rel) where
                       (λ w. c (any-state-iff L (λ r. L .transition q a r && W k t r) .1 (r, wf .target q a r m′, and-iff (L .transition q a r) (W k t r) .1 (m′, w)))),
                 ),
               ))))
+
+  -- with k rounds the challenger wins exactly from the pairs of states that are not in W(k)
+  pub wins-iff : (k p q : ℕ) → p < L .states → q < L .states → T (challengerWins L preorder k p q) ↔ (On (W k) p q → ⊥)
+  wins-iff k p q l m = (wins-out k p q, out-wins k p q l m)

@@ -8,4 +8,7 @@ pub mod Rounds
 pub mod Game
 pub mod Strategy
 pub mod Union
+pub mod Demand
 pub mod Cases
+pub mod Table
+pub mod Comparison

@@ -1,6 +1,6 @@
 -- The run of steps: it begins in the invariant, ends with nothing pending, and its K is then the coarsest isSimulation inside the preorder.
 use Prim.Native.Nat.{ℕ, zero, suc, _+_, _*_, _%_, _≤_, _<_}
-use native.Mathlib.Nat.{le-refl, le-antisymm, not-suc-le-zero, mod-lt, zero-add}
+use native.Mathlib.Nat.{le-refl, le-antisymm, not-suc-le-zero, le-of-suc-le-suc, mod-lt, zero-add}
 use native.Mathlib.Omega.{arith}
 use mathlib.Core.Path.{_≡_, refl, sym, _∙_, subst, fun-ext}
 use mathlib.Core.Logic.{_⊎_, inl, inr, _↔_}
@@ -264,6 +264,27 @@ run-ends L wf preorder es (suc fuel) k s i = go (dec (anyState L (pending L s)))
           none = λ l. ih .none (omega (arith, l, d));
         })
 
+-- enough fuel is enough: with more of it the run is the same
+run-fuel : (L : Lts) (wf : WellFormed L) (preorder : Rel) (es : List ℕ) (fuel more k : ℕ) (s : Relations) → Inv L preorder s → pairCount L (s .viewed) ≤ fuel → fuel ≤ more
+    → run L es more k s ≡ run L es fuel k s
+unfolding step
+run-fuel L wf preorder es zero more k s i l m = run-stop L es more k s none ∙ sym (run-stop L es zero k s none)
+  where
+    none : T (anyState L (pending L s)) → ⊥
+    none t = let d = step-less L wf preorder s i zero t in omega (arith, l, d)
+run-fuel L wf preorder es (suc fuel) zero k s i l m = absurd (not-suc-le-zero m)
+run-fuel L wf preorder es (suc fuel) (suc more) k s i l m =
+    go (dec (anyState L (pending L s))) (λ d. run-fuel L wf preorder es fuel more (suc k) (step L (getD es k 0) s) (next (getD es k 0)) (omega (arith, l, d)) (le-of-suc-le-suc m))
+  where
+    next : (e : ℕ) → Inv L preorder (step L e s)
+    next e = step-inv L wf preorder s i (chosen L e s)
+
+    go : T (anyState L (pending L s)) ⊎ (T (anyState L (pending L s)) → ⊥)
+        → (pairCount L (step L (getD es k 0) s .viewed) < pairCount L (s .viewed) → run L es more (suc k) (step L (getD es k 0) s) ≡ run L es fuel (suc k) (step L (getD es k 0) s))
+        → run L es (suc more) k s ≡ run L es (suc fuel) k s
+    go (inr f) ih = run-stop L es (suc more) k s f ∙ sym (run-stop L es (suc fuel) k s f)
+    go (inl t) ih = run-more L es more k s t ∙ ih (step-less L wf preorder s i (getD es k 0) t) ∙ sym (run-more L es fuel k s t)
+
 -- ---- the call `coarsest`
 
 pub pair-count-most : (L : Lts) (R : Rel) → pairCount L R ≤ L .states * L .states
@@ -291,6 +312,12 @@ module _ (L : Lts) (wf : WellFormed L) (preorder : Rel) (pre : Preorder L preord
       let most = pair-count-most L (initial L preorder .viewed) in
       let c = ends .count in
       omega (arith, least, most, c)
+
+  -- and n * n steps are always enough
+  pub coarsest-fuel : (more : ℕ) → L .states * L .states ≤ more → run L es more 0 (initial L preorder) ≡ coarsest L preorder es
+  unfolding coarsest
+  coarsest-fuel more l =
+      run-fuel L wf preorder es (L .states * L .states) more 0 (initial L preorder) (initial-inv L wf preorder pre) (pair-count-most L (initial L preorder .viewed)) l
 
 -- there is one coarsest isSimulation
 pub coarsest-unique : (L : Lts) (preorder K M : Rel) → Coarsest L preorder K → Coarsest L preorder M → K ≡ M

@@ -1,17 +1,19 @@
 -- A strategy that is allSound holds only dropped pairCount, and the strategy that is written for a dropped pair is allSound.
 use Prim.Native.Nat.{ℕ, zero, suc, _≤_, _<_}
 use native.Mathlib.Nat.{not-suc-le-zero, le-step, lt-of-le-of-lt, lt-suc-self}
-use mathlib.Core.Path.{_≡_, refl, sym, subst}
+use native.Mathlib.Numerals.{add-one}
+use mathlib.Core.Path.{_≡_, refl, sym, _∙_, ap, subst}
 use mathlib.Core.Logic.{_⊎_, inl, inr}
 use mathlib.Core.Bool.{Bool, true, false, cond, not, _&&_, _||_}
 use mathlib.Core.List.{List, [], _∷_, _++_, reverseAux}
-use lib.Dec.{T, eqb, ltb, eqb→eq, eqb-refl, lt→ltb}
-use Rattle.lts.specs.Bounded.{_⇒_, anyBelow, concatBelow, lowest}
+use lib.Dec.{T, eqb, ltb, eqb→eq, eqb-refl, lt→ltb, ltb→lt}
+use lib.ListN.{length, length-append}
+use Rattle.lts.specs.Bounded.{_⇒_, anyBelow, countBelow, concatBelow, lowest}
 use Rattle.lts.specs.System.{Rel, Lts, WellFormed, allStates, anyState, into, Relation, Simulation}
-use Rattle.lts.specs.Rounds.{round, refutedAt}
-use Rattle.lts.specs.Strategy.{Entry, holds, sound, allSound, unanswered, entryAt, entriesIn, entriesBefore, strategyAt}
+use Rattle.lts.specs.Rounds.{round, refutedAt, refutationRound}
+use Rattle.lts.specs.Strategy.{Entry, holds, sound, allSound, unanswered, entryAt, entriesIn, entriesBefore, strategyAt, strategy, strategyLength, refutedCount, accepted, lastOf}
 use Rattle.lts.proofs.Bounded.{and-iff, not-iff, imp-iff, dec, or-elim, or-left, or-right, below-suc, any-iff}
-use Rattle.lts.proofs.Count.{lowest-passes}
+use Rattle.lts.proofs.Count.{lowest-passes, sum-cong, length-concat}
 use Rattle.lts.proofs.System.{into-to, into-from, any-state-iff, all-state-iff}
 use Rattle.lts.proofs.Step.{On}
 use Rattle.lts.proofs.Rounds.{first-iff, next-iff, refuted-by, refuted-out}
@@ -71,6 +73,23 @@ concat-covers (suc n) f i l p q t = go (below-suc l) (λ m. concat-covers n f i 
     go : (i < n) ⊎ (i ≡ n) → (i < n → T (holds (concatBelow n f) p q)) → T (holds (concatBelow n f ++ f n) p q)
     go (inl m) ih = holds-append-left (concatBelow n f) (f n) p q (ih m)
     go (inr e) ih = holds-append-right (concatBelow n f) (f n) p q (subst (λ (k : ℕ). T (holds (f k) p q)) e t)
+
+-- ---- the last entry, and lengths
+
+holds-last : (e : Entry) (es : List Entry) → T (holds (e ∷ es) (lastOf (e ∷ es) .p) (lastOf (e ∷ es) .q))
+unfolding lastOf
+holds-last e [] = holds-here e []
+holds-last e (f ∷ es) = holds-later e (f ∷ es) _ _ (holds-last f es)
+
+last-snoc : (xs : List Entry) (x : Entry) → lastOf (xs ++ (x ∷ [])) ≡ x
+unfolding lastOf
+last-snoc [] x = refl
+last-snoc (y ∷ []) x = refl
+last-snoc (y ∷ z ∷ xs) x = last-snoc (z ∷ xs) x
+
+length-if : (b : Bool) (e : Entry) → length (cond b (e ∷ []) []) ≡ cond b 1 0
+length-if true e = refl
+length-if false e = refl
 
 -- ---- what a sound entry says
 
@@ -291,3 +310,62 @@ module _ (L : Lts) (wf : WellFormed L) (preorder : Rel) where
   strategy-all-sound j p q lp lq f =
       all-sound-join [] (entriesBefore L preorder j) (entryAt L preorder j p q ∷ []) (before-all-sound j)
       (sound-all-sound (entriesBefore L preorder j) (reverseAux (entriesBefore L preorder j) []) (entryAt L preorder j p q ∷ []) (holds-reversed (entriesBefore L preorder j) []) (entry-sound j p q lp lq f, tt))
+
+  -- ---- the strategy that is written, and what the checker answers
+
+  accepted-snoc : (xs : List Entry) (e : Entry) → T (allSound L preorder [] (xs ++ (e ∷ []))) → T (accepted L preorder (xs ++ (e ∷ [])))
+  unfolding accepted
+  accepted-snoc [] e t = t
+  accepted-snoc (x ∷ xs) e t = t
+
+  pub strategy-at-accepted : (j p q : ℕ) → p < L .states → q < L .states → T (refutedAt L preorder j p q) → T (accepted L preorder (strategyAt L preorder j p q))
+  unfolding strategyAt
+  strategy-at-accepted j p q lp lq f = accepted-snoc (entriesBefore L preorder j) (entryAt L preorder j p q) (strategy-all-sound j p q lp lq f)
+
+  entry-pair-is : (j p q : ℕ) → (entryAt L preorder j p q .p ≡ p) × (entryAt L preorder j p q .q ≡ q)
+  unfolding entryAt
+  entry-pair-is zero p q = (refl, refl)
+  entry-pair-is (suc j) p q = (refl, refl)
+
+  pub strategy-last : (p q : ℕ) → (lastOf (strategy L preorder p q) .p ≡ p) × (lastOf (strategy L preorder p q) .q ≡ q)
+  unfolding strategy strategyAt
+  strategy-last p q =
+      let j = refutationRound L preorder p q in
+      let e = last-snoc (entriesBefore L preorder j) (entryAt L preorder j p q) in
+      let d = entry-pair-is j p q in
+      (ap (λ (x : Entry). x .p) e ∙ d .0, ap (λ (x : Entry). x .q) e ∙ d .1)
+
+  entries-in-count : (j : ℕ) → length (entriesIn L preorder j) ≡ refutedCount L preorder j
+  unfolding entriesIn refutedCount countBelow
+  entries-in-count j =
+      length-concat (L .states) (λ p. concatBelow (L .states) (cell p))
+      ∙ sum-cong (L .states) _ _ (λ p. length-concat (L .states) (cell p) ∙ sum-cong (L .states) _ _ (λ q. length-if (refutedAt L preorder j p q) (entryAt L preorder j p q)))
+    where
+      cell : ℕ → ℕ → List Entry
+      cell p q = cond (refutedAt L preorder j p q) (entryAt L preorder j p q ∷ []) []
+
+  pub strategy-count : (p q : ℕ) → length (strategy L preorder p q) ≡ strategyLength L preorder p q
+  unfolding strategy strategyAt strategyLength entriesBefore
+  strategy-count p q =
+      let j = refutationRound L preorder p q in
+      length-append (entriesBefore L preorder j) (entryAt L preorder j p q ∷ []) ∙ add-one (length (entriesBefore L preorder j))
+      ∙ ap suc (length-concat j (entriesIn L preorder) ∙ sum-cong j _ _ entries-in-count)
+
+  all-sound-last : (earlier : List Entry) (e : Entry) (es : List Entry) → T (allSound L preorder earlier (e ∷ es)) → (lastOf (e ∷ es) .p < L .states) × (lastOf (e ∷ es) .q < L .states)
+  unfolding allSound lastOf sound outside ready
+  all-sound-last earlier e [] t =
+      let s = and-iff (sound L preorder earlier e) true .0 t .0 in
+      let b = and-iff (ltb (e .p) (L .states) && ltb (e .q) (L .states)) (outside e || L .transition (e .p) (e .a) (e .t) && ready earlier e) .0 s .0 in
+      let c = and-iff (ltb (e .p) (L .states)) (ltb (e .q) (L .states)) .0 b in
+      (ltb→lt (e .p) (L .states) (c .0), ltb→lt (e .q) (L .states) (c .1))
+  all-sound-last earlier e (f ∷ es) t = all-sound-last (e ∷ earlier) f es (and-iff (sound L preorder earlier e) (allSound L preorder (e ∷ earlier) (f ∷ es)) .0 t .1)
+
+  pub accepted-states : (es : List Entry) → T (accepted L preorder es) → (lastOf es .p < L .states) × (lastOf es .q < L .states)
+  unfolding accepted
+  accepted-states [] t = absurd t
+  accepted-states (e ∷ es) t = all-sound-last [] e es t
+
+  pub accepted-refutes : (S : Relation) → Simulation L preorder S → (es : List Entry) → T (accepted L preorder es) → S (lastOf es .p) (lastOf es .q) → ⊥
+  unfolding accepted
+  accepted-refutes S sim [] t = absurd t
+  accepted-refutes S sim (e ∷ es) t = strategy-refutes S sim [] (e ∷ es) (λ p q u. absurd (holds-none p q u)) t _ _ (holds-last e es)

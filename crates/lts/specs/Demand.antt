@@ -4,7 +4,7 @@ use Prim.Native.Nat.{ℕ, _+_, _*_, _-_, _≤_, _<_}
 use mathlib.Core.Path.{_≡_}
 use mathlib.Core.Logic.{_↔_}
 use mathlib.Core.Bool.{not}
-use mathlib.Core.List.{List, _∷_}
+use mathlib.Core.List.{List}
 use lib.Dec.{T}
 use lib.ListN.{length}
 use Rattle.lts.specs.System.{Rel, Lts, reflexive, transitive, within, isSimulation, Relation, Simulation}
@@ -40,13 +40,13 @@ pub record Independent (L : Lts) (preorder : Rel) (schedule : List ℕ) (r : Run
 
 -- What strategies show of K.
 pub record Strategies (L : Lts) (preorder K : Rel) : Type 0 where
-  -- the strategy that is written for a pair outside K is accepted, ends in that pair, and has as many entries as its count says
+  -- the strategy that is written for a pair of states outside K is accepted; it ends in its pair, with as many entries as its count says
   pub written : (p q : ℕ) → p < L .states → q < L .states → T (not (K p q)) → T (accepted L preorder (strategy L preorder p q))
-  pub last : (p q : ℕ) → p < L .states → q < L .states → (e : Entry) (es : List Entry) → strategy L preorder p q ≡ e ∷ es → (lastOf e es .p ≡ p) × (lastOf e es .q ≡ q)
+  pub last : (p q : ℕ) → (lastOf (strategy L preorder p q) .p ≡ p) × (lastOf (strategy L preorder p q) .q ≡ q)
   pub count : (p q : ℕ) → length (strategy L preorder p q) ≡ strategyLength L preorder p q
-  -- no accepted strategy ends in a pair of K; the pair is one of states
-  pub ends : (e : Entry) (es : List Entry) → T (accepted L preorder (e ∷ es)) → T (not (K (lastOf e es .p) (lastOf e es .q)))
-  pub states : (e : Entry) (es : List Entry) → T (accepted L preorder (e ∷ es)) → (lastOf e es .p < L .states) × (lastOf e es .q < L .states)
+  -- an accepted strategy ends in a pair of states, and not in one of K
+  pub states : (es : List Entry) → T (accepted L preorder es) → (lastOf es .p < L .states) × (lastOf es .q < L .states)
+  pub ends : (es : List Entry) → T (accepted L preorder es) → T (not (K (lastOf es .p) (lastOf es .q)))
 
 -- the whole of demand 3 about one Lts, one preorder and the whole schedule
 pub record Demand3 (L : Lts) (preorder : Rel) (schedule : List ℕ) : Type 1 where

@@ -37,9 +37,10 @@ unfoldable pub accepted : Lts → Rel → List Entry → Bool
 accepted L preorder [] = false
 accepted L preorder (e ∷ es) = allSound L preorder [] (e ∷ es)
 
-unfoldable pub lastOf : Entry → List Entry → Entry
-lastOf e [] = e
-lastOf e (f ∷ es) = lastOf f es
+unfoldable pub lastOf : List Entry → Entry
+lastOf [] = record { p = 0; q = 0; a = 0; t = 0 }
+lastOf (e ∷ []) = e
+lastOf (e ∷ f ∷ es) = lastOf (f ∷ es)
 
 -- a list of numbers carries an entry in each four; those past the last whole entry belong to none
 unfoldable pub entriesOf : List ℕ → List Entry
