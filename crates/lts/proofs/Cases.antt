@@ -1,47 +1,69 @@
--- F1 to F6 of document 01, computed from the definitions.
+-- F1 to F6 of document 01, computed from the definitions, and the smallest systems that tell the refinement rule from four near misses.
 use Prim.Native.Nat.{ℕ}
-use mathlib.Core.Bool.{Bool, false, not, _&&_, _||_, xor}
+use mathlib.Core.Bool.{Bool, true, false, not, _&&_, _||_, xor}
 use mathlib.Core.List.{List, [], _∷_}
-use mathlib.Core.Path.{_≡_, refl}
 use lib.Dec.{T, eqb}
 use Rattle.lts.specs.Bounded.{anyBelow, allBelow, sumBelow, countBelow, passing, concatBelow, lowest, restrict}
 use Rattle.lts.specs.System.{Lts, allStates, anyState, allActions, anyAction, into, terminationPreorder, answered}
 use Rattle.lts.specs.Refinement.{run, step, stepOf, eachAction, chosen, pending, isRepresentative, representative, block, coarsest, initial, pairCount, blockCount, refine, split, prune, remove}
 use Rattle.lts.specs.Rounds.{round, refutedAt, refutationRound}
-use Rattle.lts.specs.Strategy.{Entry, entryAt, unanswered, entriesIn, entriesBefore, strategyAt}
+use Rattle.lts.specs.Strategy.{Entry, holds, sound, allSound, accepted, entryAt, unanswered, entriesIn, entriesBefore, strategyAt, strategy, numbersOf, entriesOf}
 use Rattle.lts.specs.Game.{defenderLoses, challengerWins}
 
-lts : ℕ → ℕ → (ℕ → ℕ → ℕ → Bool) → Lts
-lts n m mv = record { states = n; actions = m; terminating = λ p. false; transition = mv }
+-- the transitions of a list
+listed : List (ℕ × ℕ × ℕ) → ℕ → ℕ → ℕ → Bool
+listed [] p a t = false
+listed (x ∷ xs) p a t = eqb (x .0) p && eqb (x .1) a && eqb (x .2) t || listed xs p a t
 
--- the transitions of a list, each by action 1
-transitions : List (ℕ × ℕ) → ℕ → ℕ → ℕ → Bool
-transitions [] p a t = false
-transitions (m ∷ ms) p a t = eqb (m .0) p && eqb 1 a && eqb (m .1) t || transitions ms p a t
+-- n states, m actions and the transitions of a list; state `mark` alone terminates (none where it is n)
+system : ℕ → ℕ → ℕ → List (ℕ × ℕ × ℕ) → Lts
+system n m mark xs = record { states = n; actions = m; terminating = eqb mark; transition = listed xs }
 
 F1 : Lts
-F1 = lts 1 0 (transitions [])
+F1 = system 1 0 1 []
 
 F2 : Lts
-F2 = lts 2 1 (transitions ((0, 1) ∷ (1, 0) ∷ []))
+F2 = system 2 1 2 ((0, 1, 1) ∷ (1, 1, 0) ∷ [])
 
 F3 : Lts
-F3 = lts 3 1 (transitions ((0, 1) ∷ (2, 2) ∷ []))
+F3 = system 3 1 3 ((0, 1, 1) ∷ (2, 1, 2) ∷ [])
 
 F4 : Lts
-F4 = lts 4 1 (transitions ((0, 1) ∷ (1, 2) ∷ (2, 3) ∷ []))
+F4 = system 4 1 4 ((0, 1, 1) ∷ (1, 1, 2) ∷ (2, 1, 3) ∷ [])
 
--- steps, related pairCount, blockCount
-gives : Lts → ℕ → ℕ → ℕ → Bool
-gives L t k b = let r = coarsest L (terminationPreorder L) [] in eqb (r .steps) t && eqb (pairCount L (r .final .related)) k && eqb (blockCount L (r .final .related)) b
+-- steps, pairs and blocks of the run inside the termination preorder
+gives : Lts → List ℕ → ℕ → ℕ → ℕ → Bool
+gives L schedule steps pairs blocks =
+    let r = coarsest L (terminationPreorder L) schedule in
+    eqb (r .steps) steps && eqb (pairCount L (r .final .related)) pairs && eqb (blockCount L (r .final .related)) blocks
 
-entry : ℕ → ℕ → ℕ → ℕ → Entry
-entry p q a t = record { p = p; q = q; a = a; t = t }
+sameNumbers : List ℕ → List ℕ → Bool
+sameNumbers [] [] = true
+sameNumbers [] (y ∷ ys) = false
+sameNumbers (x ∷ xs) [] = false
+sameNumbers (x ∷ xs) (y ∷ ys) = eqb x y && sameNumbers xs ys
 
-cases : T (gives F1 0 1 1 && gives F2 0 4 1 && gives F3 2 6 3 && gives F4 3 10 4 && not (challengerWins F3 (terminationPreorder F3) 1 2 0) && challengerWins F3 (terminationPreorder F3) 2 2 0)
-unfolding lts transitions gives F1 F2 F3 F4 entry anyBelow allBelow sumBelow countBelow passing concatBelow lowest restrict allStates anyState allActions anyAction into terminationPreorder answered run step stepOf eachAction chosen pending isRepresentative representative block coarsest initial pairCount blockCount refine split prune remove xor round refutedAt entryAt unanswered entriesIn entriesBefore strategyAt refutationRound challengerWins defenderLoses
+-- the numbers of F5's strategy
+five : List ℕ
+five = 0 ∷ 1 ∷ 1 ∷ 1 ∷ 2 ∷ 1 ∷ 1 ∷ 2 ∷ 2 ∷ 0 ∷ 1 ∷ 2 ∷ []
+
+accepts : List ℕ → Bool
+accepts xs = accepted F3 (terminationPreorder F3) (entriesOf xs)
+
+wins : ℕ → Bool
+wins k = challengerWins F3 (terminationPreorder F3) k 2 0
+
+-- F1 to F4; F5: the written strategy, which is accepted, with its first entry or without, and not its last alone, no entry, or an entry
+-- that cites itself;
+-- F6: the game. Then a system each that the rule with single pairs dropped in step 3, with Y recomputed between actions, with position e
+-- and not e mod c, and with V not set would give other numbers for.
+cases : T
+    (gives F1 [] 0 1 1 && gives F2 [] 0 4 1 && gives F3 [] 2 6 3 && gives F4 [] 3 10 4
+    && sameNumbers (numbersOf (strategy F3 (terminationPreorder F3) 2 0)) five && accepts five && not (accepts [])
+    && not (accepts (2 ∷ 0 ∷ 1 ∷ 2 ∷ [])) && accepts (2 ∷ 1 ∷ 1 ∷ 2 ∷ 2 ∷ 0 ∷ 1 ∷ 2 ∷ []) && not (accepts (2 ∷ 2 ∷ 1 ∷ 2 ∷ []))
+    && not (wins 1) && wins 2
+    && gives (system 4 1 3 ((0, 1, 2) ∷ (2, 1, 3) ∷ (3, 1, 1) ∷ [])) [] 5 7 4
+    && gives (system 3 2 3 ((0, 2, 0) ∷ (0, 2, 2) ∷ (1, 1, 2) ∷ (2, 1, 0) ∷ [])) (5 ∷ []) 4 3 3
+    && gives (system 2 1 2 ((1, 1, 1) ∷ [])) (5 ∷ []) 1 3 2)
+unfolding listed system gives sameNumbers five accepts wins F1 F2 F3 F4 anyBelow allBelow sumBelow countBelow passing concatBelow lowest restrict allStates anyState allActions anyAction into terminationPreorder answered run step stepOf eachAction chosen pending isRepresentative representative block coarsest initial pairCount blockCount refine split prune remove round refutedAt refutationRound holds sound allSound accepted entryAt unanswered entriesIn entriesBefore strategyAt strategy numbersOf entriesOf defenderLoses challengerWins xor
 cases = tt
-
-F5 : strategyAt F3 (terminationPreorder F3) (refutationRound F3 (terminationPreorder F3) 2 0) 2 0 ≡ entry 0 1 1 1 ∷ entry 2 1 1 2 ∷ entry 2 0 1 2 ∷ []
-unfolding lts transitions gives F1 F2 F3 F4 entry anyBelow allBelow sumBelow countBelow passing concatBelow lowest restrict allStates anyState allActions anyAction into terminationPreorder answered run step stepOf eachAction chosen pending isRepresentative representative block coarsest initial pairCount blockCount refine split prune remove xor round refutedAt entryAt unanswered entriesIn entriesBefore strategyAt refutationRound challengerWins defenderLoses
-F5 = refl
