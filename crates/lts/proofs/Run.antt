@@ -1,8 +1,8 @@
 -- The run of steps: it begins in the invariant, ends with nothing pending, and its K is then the coarsest isSimulation inside the preorder.
-use Prim.Native.Nat.{ℕ, zero, suc, _+_, _*_, _%_, _≤_, _<_}
+use Prim.Native.Nat.{ℕ, zero, suc, _+_, _*_, _-_, _%_, _≤_, _<_}
 use native.Mathlib.Nat.{le-refl, le-antisymm, not-suc-le-zero, le-of-suc-le-suc, mod-lt, zero-add}
 use native.Mathlib.Omega.{arith}
-use mathlib.Core.Path.{_≡_, refl, sym, _∙_, subst, fun-ext}
+use mathlib.Core.Path.{_≡_, refl, sym, _∙_, ap, subst, fun-ext}
 use mathlib.Core.Logic.{_⊎_, inl, inr, _↔_}
 use mathlib.Core.Bool.{Bool, true, false, _&&_, xor}
 use mathlib.Core.List.{List}
@@ -329,37 +329,50 @@ pub same-for-all-schedules : (L : Lts) (wf : WellFormed L) (preorder : Rel) → 
 same-for-all-schedules L wf preorder pre es fs =
     coarsest-unique L preorder (coarsest L preorder es .final .related) (coarsest L preorder fs .final .related) (coarsest-is L wf preorder pre es) (coarsest-is L wf preorder pre fs)
 
--- ---- the loop of a program: state s after k steps, with room for `fuel` more
+-- ---- the loop of a program
 
-pub record Loop (L : Lts) (preorder : Rel) (es : List ℕ) (fuel k : ℕ) (s : Relations) : Type 1 where
-  pub inv : Inv L preorder s
-  pub room : pairCount L (s .viewed) ≤ fuel
-  pub total : k + fuel ≡ L .states * L .states
-  pub same : run L es fuel k s ≡ coarsest L preorder es
+-- after k steps, each made while something was pending, the relations are s
+pub data Reached (L : Lts) (preorder : Rel) (es : List ℕ) : ℕ → Relations → Type 0 where
+  begin : Reached L preorder es 0 (initial L preorder)
+  next : {k : ℕ} {s : Relations} → Reached L preorder es k s → T (anyState L (pending L s)) → Reached L preorder es (suc k) (step L (getD es k 0) s)
 
-pub loop-begin : (L : Lts) (wf : WellFormed L) (preorder : Rel) → Preorder L preorder → (es : List ℕ) → Loop L preorder es (L .states * L .states) 0 (initial L preorder)
-unfolding coarsest
-loop-begin L wf preorder pre es = record {
-  inv = initial-inv L wf preorder pre;
-  room = pair-count-most L (initial L preorder .viewed);
-  total = zero-add (L .states * L .states);
-  same = refl;
-}
+module _ (L : Lts) (wf : WellFormed L) (preorder : Rel) (pre : Preorder L preorder) (es : List ℕ) where
+  record At (k : ℕ) (s : Relations) : Type 1 where
+    inv : Inv L preorder s
+    room : k + pairCount L (s .viewed) ≤ L .states * L .states
+    same : (fuel : ℕ) → k + fuel ≡ L .states * L .states → run L es fuel k s ≡ coarsest L preorder es
 
-pub loop-step : (L : Lts) (wf : WellFormed L) (preorder : Rel) (es : List ℕ) (fuel k : ℕ) (s : Relations) → Loop L preorder es fuel k s → T (anyState L (pending L s))
-    → (less : ℕ) × (suc less ≡ fuel) × Loop L preorder es less (suc k) (step L (getD es k 0) s)
-unfolding step
-loop-step L wf preorder es zero k s l t = let r = l .room in let d = step-less L wf preorder s (l .inv) zero t in absurd (omega (arith, r, d))
-loop-step L wf preorder es (suc fuel) k s l t = (
-  fuel,
-  refl,
-  record {
-    inv = step-inv L wf preorder s (l .inv) (chosen L (getD es k 0) s);
-    room = let r = l .room in let d = step-less L wf preorder s (l .inv) (getD es k 0) t in omega (arith, r, d);
-    total = let e = l .total in omega (arith, e);
-    same = sym (run-more L es fuel k s t) ∙ l .same;
-  },
-)
+  reached-at : (k : ℕ) (s : Relations) → Reached L preorder es k s → At k s
+  unfolding coarsest step
+  reached-at zero s begin = record {
+    inv = initial-inv L wf preorder pre;
+    room = let m = pair-count-most L (initial L preorder .viewed) in omega (arith, m);
+    same = λ fuel e. let d : fuel ≡ L .states * L .states = omega (arith, e) in ap (λ (f : ℕ). run L es f 0 (initial L preorder)) d;
+  }
+  reached-at (suc k) s (next {s = s₀} r t) =
+      let a = reached-at k s₀ r in
+      let d = step-less L wf preorder s₀ (a .inv) (getD es k 0) t in
+      record {
+        inv = step-inv L wf preorder s₀ (a .inv) (chosen L (getD es k 0) s₀);
+        room = let l = a .room in omega (arith, l, d);
+        same = λ fuel e. sym (run-more L es fuel k s₀ t) ∙ a .same (suc fuel) (omega (arith, e));
+      }
 
-pub loop-end : (L : Lts) (preorder : Rel) (es : List ℕ) (fuel k : ℕ) (s : Relations) → Loop L preorder es fuel k s → (T (anyState L (pending L s)) → ⊥) → coarsest L preorder es ≡ record { final = s; steps = k }
-loop-end L preorder es fuel k s l f = sym (l .same) ∙ run-stop L es fuel k s f
+  pub reached-inv : (k : ℕ) (s : Relations) → Reached L preorder es k s → Inv L preorder s
+  reached-inv k s r = reached-at k s r .inv
+
+  -- while something is pending, fewer than n * n steps were made
+  pub reached-below : (k : ℕ) (s : Relations) → Reached L preorder es k s → T (anyState L (pending L s)) → k < L .states * L .states
+  reached-below k s r t =
+      let a = reached-at k s r in
+      let d = step-less L wf preorder s (a .inv) zero t in
+      let l = a .room in
+      omega (arith, l, d)
+
+  -- where nothing is, the run is at its end
+  pub reached-end : (k : ℕ) (s : Relations) → Reached L preorder es k s → (T (anyState L (pending L s)) → ⊥) → coarsest L preorder es ≡ record { final = s; steps = k }
+  reached-end k s r f =
+      let a = reached-at k s r in
+      let fuel = L .states * L .states - k in
+      let l = a .room in
+      sym (a .same fuel (omega (arith, l))) ∙ run-stop L es fuel k s f

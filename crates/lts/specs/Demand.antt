@@ -12,10 +12,11 @@ use Rattle.lts.specs.Refinement.{Run, pending, run, initial, coarsest, p
 use Rattle.lts.specs.Rounds.{refutedAt}
 use Rattle.lts.specs.Strategy.{Entry, accepted, lastOf, strategy, strategyLength}
 
--- K is the coarsest simulation inside the preorder.
-pub record IsCoarsest (L : Lts) (preorder K : Rel) : Type 1 where
-  -- it lacks a pair exactly when no simulation inside the preorder contains it
-  pub lacks : (p q : ℕ) → T (not (K p q)) ↔ ((S : Relation) → Simulation L preorder S → S p q → ⊥)
+-- K is the coarsest simulation inside the preorder. (S ranges over the grids; `contains` of `Demand3` is about all relations.)
+pub record IsCoarsest (L : Lts) (preorder K : Rel) : Type 0 where
+  -- it lacks a pair of states exactly when no simulation inside the preorder contains it
+  pub lacks : (p q : ℕ) → p < L .states → q < L .states
+      → T (not (K p q)) ↔ ((S : Rel) → T (isSimulation L S) → T (within L S preorder) → T (S p q) → ⊥)
   -- and exactly when the pair falls in one of the rounds
   pub refuted : (p q : ℕ) → T (not (K p q)) ↔ ((j : ℕ) × T (refutedAt L preorder j p q))
   -- it is reflexive and transitive, is a simulation inside the preorder, and contains every other
@@ -23,7 +24,7 @@ pub record IsCoarsest (L : Lts) (preorder K : Rel) : Type 1 where
   pub transitive : T (transitive L K)
   pub simulation : T (isSimulation L K)
   pub inside : T (within L K preorder)
-  pub contains : (S : Relation) → Simulation L preorder S → (p q : ℕ) → S p q → T (K p q)
+  pub greatest : (S : Rel) → T (isSimulation L S) → T (within L S preorder) → T (within L S K)
 
 -- What the run r of one schedule has in common with the run of every other, and how it ends.
 pub record Independent (L : Lts) (preorder : Rel) (schedule : List ℕ) (r : Run) : Type 0 where
@@ -51,5 +52,6 @@ pub record Strategies (L : Lts) (preorder K : Rel) : Type 0 where
 -- the whole of demand 3 about one Lts, one preorder and the whole schedule
 pub record Demand3 (L : Lts) (preorder : Rel) (schedule : List ℕ) : Type 1 where
   pub relation : IsCoarsest L preorder (coarsest L preorder schedule .final .related)
+  pub contains : (S : Relation) → Simulation L preorder S → (p q : ℕ) → S p q → T (coarsest L preorder schedule .final .related p q)
   pub independent : Independent L preorder schedule (coarsest L preorder schedule)
   pub strategies : Strategies L preorder (coarsest L preorder schedule .final .related)
