@@ -3,61 +3,54 @@ use Prim.Native.Nat.{ℕ, zero, suc, _+_, _-_, _*_, _/_, _%_, _^_, _<_, _≤_}
 use mathlib.Core.Path.{_≡_, refl, sym, ap, _∙_}
 use mathlib.Core.List.{List, [], _∷_, _++_, append-assoc}
 use native.Mathlib.Nat.{pow-le-pow-right, pow-suc, not-suc-le-zero, mul-suc, mul-zero}
-use borrow.Rule.Slice.PartMut.{putMid}
 use native.Mathlib.Numerals.{add-one, sub-one}
 use native.Mathlib.Omega.{arith}
 use lib.Dec.{lit<}
-use lib.ListN.{length, getD, take, drop, set, length-append, length-drop}
-use lib.Seq.{append-snoc, take-suc, take-suc-set, take-all, take-length, take-at, drop-cons, drop-drop, drop-at, drop-length, set-at, length-take-le}
+use lib.ListN.{length, getD, take, drop, set, length-append, take-append-drop}
+use lib.Seq.{append-snoc, take-suc, take-suc-set, take-length, take-at, take-add, drop-cons, drop-drop, drop-at, drop-length, set-at, length-take-le, slice, slice-empty, slice-cons}
 use Rattle.carry.specs.Carried.{numberOf, digits, numbersOf, bytesOf, loaded, stored}
 
 append-nil : (l : List ℕ) → l ++ [] ≡ l
 append-nil [] = refl
 append-nil (x ∷ xs) = ap (λ (r : List ℕ). x ∷ r) (append-nil xs)
 
--- Reading a number, from its last byte down: x is what the bytes from k on carry.
-pub number-start : (b : List ℕ) → 0 ≡ numberOf (drop (length b) b)
+-- Reading a number, from its last byte down: x is what the bytes from j to t carry.
+pub number-start : (t : ℕ) (b : List ℕ) → 0 ≡ numberOf (slice t t b)
 unfolding numberOf
-number-start b = rw (drop-length b)
+number-start t b = rw (slice-empty t b)
 
-pub number-down : (b : List ℕ) (k x : ℕ) → 0 < k → k ≤ length b → x ≡ numberOf (drop k b) → x * 256 + getD b (k - 1) 0 ≡ numberOf (drop (k - 1) b)
+pub number-down : (j t x : ℕ) (b : List ℕ) → 0 < j → j ≤ t → t ≤ length b → x ≡ numberOf (slice j t b) → x * 256 + getD b (j - 1) 0 ≡ numberOf (slice (j - 1) t b)
 unfolding numberOf
-number-down b zero x h l e = absurd (not-suc-le-zero h)
-number-down b (suc m) x h l e = rw (sub-one (suc m), drop-cons b m 0 l, ← e) (omega arith)
+number-down zero t x b h l m e = absurd (not-suc-le-zero h)
+number-down (suc i) t x b h l m e = rw (sub-one (suc i), slice-cons i t b 0 l m, ← e) (omega arith)
+
+pub number-done : (at k x : ℕ) (b : List ℕ) → at + k ≤ length b → x ≡ numberOf (slice at (at + k) b) → x ≡ numberOf (take k (drop at b))
+number-done at k x b h e = rw (take-add, drop-at (take at b) (take k (drop at b)) at (length-take-le at b (omega arith))) at e
 
 -- one byte more fits a word
 pub number-fits : (j x y : ℕ) → j < 8 → x < 256 ^ j → y < 256 → x * 256 + y < 2 ^ 64
 number-fits j x y h l g = let p = pow-le-pow-right {n = 256} (lit< tt) {i = j} {j = 7} (omega arith) in omega arith
 
-pub bound-start : (n : ℕ) → 0 < 256 ^ (n - n)
-bound-start n = let e : n - n ≡ 0 = omega arith in rw e (lit< tt)
+pub bound-start : (t : ℕ) → 0 < 256 ^ (t - t)
+bound-start t = let e : t - t ≡ 0 = omega arith in rw e (lit< tt)
 
-pub bound-down : (n k x y : ℕ) → 0 < k → k ≤ n → x < 256 ^ (n - k) → y < 256 → x * 256 + y < 256 ^ (n - (k - 1))
-bound-down n k x y h l b g = let e : n - (k - 1) ≡ suc (n - k) = omega arith in rw (e, pow-suc 256 (n - k)) (omega arith)
+pub bound-down : (j t x y : ℕ) → 0 < j → j ≤ t → x < 256 ^ (t - j) → y < 256 → x * 256 + y < 256 ^ (t - (j - 1))
+bound-down j t x y h l b g = let e : t - (j - 1) ≡ suc (t - j) = omega arith in rw (e, pow-suc 256 (t - j)) (omega arith)
 
--- Writing a number: `digits (n - i) x` is still to come.
+-- Writing a number: the bytes to j are written, and `digits (t - j) x` and `rest` are still to come.
 pub digits-length : (k x : ℕ) → length (digits k x) ≡ k
 unfolding digits
 digits-length zero x = refl
 digits-length (suc k) x = ap suc (digits-length k (x / 256))
 
-pub digits-more : {T : List ℕ} (b : List ℕ) (n i x : ℕ) → i < length b → i < n → take i b ++ digits (n - i) x ≡ T → take (i + 1) (set b i (x % 256)) ++ digits (n - (i + 1)) (x / 256) ≡ T
-unfolding digits
-digits-more b n i x h l t = let e : n - i ≡ suc (n - suc i) = omega arith in rw (add-one, take-suc-set b i (x % 256) h, append-snoc) (rw e at t)
+module _ {T : List ℕ} (j t x : ℕ) (b rest : List ℕ) where
+  pub digits-more : j < t → t ≤ length b → take j b ++ (digits (t - j) x ++ rest) ≡ T → take (j + 1) (set b j (x % 256)) ++ (digits (t - (j + 1)) (x / 256) ++ rest) ≡ T
+  unfolding digits
+  digits-more h l e = let d : t - j ≡ suc (t - suc j) = omega arith in rw (add-one, take-suc-set b j (x % 256) (omega arith), append-snoc) (rw d at e)
 
-pub digits-done : {T : List ℕ} (b : List ℕ) (n i x : ℕ) → length b ≤ i → n ≤ i → take i b ++ digits (n - i) x ≡ T → b ≡ T
-unfolding digits
-digits-done b n i x h l t = let e : n - i ≡ 0 = omega arith in sym (append-nil b) ∙ (rw (e, take-all i b h) at t)
-
--- Bytes k * i to k * i + k, as the code's `[at..end]` gives them.
-abbrev pub part : ℕ → ℕ → List ℕ → List ℕ
-part k i bs = take (k * i + k - k * i) (drop (k * i) bs)
-
-part-is : (k i : ℕ) (bs : List ℕ) → part k i bs ≡ take k (drop (k * i) bs)
-part-is k i bs = let e : k * i + k - k * i ≡ k = omega arith in rw e
-
-pub part-length : (k i : ℕ) (bs : List ℕ) → k * i + k ≤ length bs → length (part k i bs) ≡ k
-part-length k i bs h = rw (part-is k i bs) (length-take-le k (drop (k * i) bs) (rw (length-drop (k * i) bs) (omega arith)))
+  pub digits-done : j ≡ t → drop t b ≡ rest → take j b ++ (digits (t - j) x ++ rest) ≡ T → b ≡ T
+  unfolding digits
+  digits-done h l e = let d : t - j ≡ 0 = omega arith in sym (take-append-drop t b) ∙ (rw (d, h, ← l) at e)
 
 -- Reading numbers: i of them are read, the rest is as it was.
 pub numbers-length : (k n : ℕ) (bs : List ℕ) → length (numbersOf k n bs) ≡ n
@@ -72,15 +65,14 @@ numbers-snoc k (suc n) bs =
     let e : k + k * n ≡ k * suc n = rw mul-suc (omega arith) in
     rw (← e, ← drop-drop (k * n) k bs, ← numbers-snoc k n (drop k bs))
 
-pub numbers-more : (k i r : ℕ) (bs entry xs : List ℕ) → i < length entry → r ≡ numberOf (part k i bs) → xs ≡ numbersOf k i bs ++ drop i entry
-    → set xs i r ≡ numbersOf k (i + 1) bs ++ drop (i + 1) entry
-numbers-more k i r bs entry xs h g e =
-    let g′ : r ≡ numberOf (take k (drop (k * i) bs)) = g ∙ ap numberOf (part-is k i bs) in
-    rw (e, add-one, drop-cons entry i 0 h, set-at (numbersOf k i bs) (getD entry i 0) (drop (suc i) entry) r i (numbers-length k i bs), numbers-snoc k i bs, append-snoc, ← g′)
+module _ (k i : ℕ) (bs entry xs : List ℕ) (e : xs ≡ numbersOf k i bs ++ drop i entry) where
+  pub numbers-more : (x : ℕ) → i < length entry → x ≡ numberOf (take k (drop (k * i) bs)) → set xs i x ≡ numbersOf k (i + 1) bs ++ drop (i + 1) entry
+  numbers-more x h g =
+      rw (e, add-one, drop-cons entry i 0 h, set-at (numbersOf k i bs) (getD entry i 0) (drop (suc i) entry) x i (numbers-length k i bs), numbers-snoc k i bs, append-snoc, ← g)
 
-pub numbers-done : (k i : ℕ) (bs entry xs : List ℕ) → i ≡ length bs / k → xs ≡ numbersOf k i bs ++ drop i entry → xs ≡ loaded k bs entry
-unfolding loaded
-numbers-done k i bs entry xs h e = rw h at e
+  pub numbers-done : i ≡ length bs / k → xs ≡ loaded k bs entry
+  unfolding loaded
+  numbers-done h = rw h at e
 
 -- Writing numbers: the bytes of i of them are written, the rest is as it was.
 pub bytes-length : (k : ℕ) (xs : List ℕ) → length (bytesOf k xs) ≡ k * length xs
@@ -93,17 +85,16 @@ unfolding bytesOf
 bytes-snoc k [] x = append-nil (digits k x)
 bytes-snoc k (y ∷ xs) x = rw (bytes-snoc k xs x, append-assoc)
 
-pub bytes-more : (k i : ℕ) (xs entry bs ys : List ℕ) → i < length xs → length bs ≡ length entry → k * i + k ≤ length entry → ys ≡ digits (length (part k i bs)) (getD xs i 0)
-    → bs ≡ bytesOf k (take i xs) ++ drop (k * i) entry → putMid (k * i) (k * i + k - k * i) bs ys ≡ bytesOf k (take (i + 1) xs) ++ drop (k * (i + 1)) entry
-bytes-more k i xs entry bs ys h m l g e =
-    let w : k * i + k - k * i ≡ k = omega arith in
-    let g′ : ys ≡ digits k (getD xs i 0) = g ∙ (rw (part-length k i bs (omega arith))) in
-    let n : length (bytesOf k (take i xs)) ≡ k * i = bytes-length k (take i xs) ∙ (rw (length-take-le i xs (omega arith))) in
-    rw (g′, e, w, take-at (bytesOf k (take i xs)) (drop (k * i) entry) (k * i) n, drop-at (bytesOf k (take i xs)) (drop (k * i) entry) (k * i) n, add-one, take-suc xs i 0 h, bytes-snoc, mul-suc, append-assoc, drop-drop)
+module _ (k i : ℕ) (xs entry bs : List ℕ) (e : bs ≡ bytesOf k (take i xs) ++ drop (k * i) entry) where
+  pub bytes-more : (ys : List ℕ) → i < length xs → ys ≡ take (k * i) bs ++ (digits k (getD xs i 0) ++ drop (k * i + k) bs) → ys ≡ bytesOf k (take (i + 1) xs) ++ drop (k * (i + 1)) entry
+  bytes-more ys h g =
+      let w = bytesOf k (take i xs) in
+      let n : length w ≡ k * i = bytes-length k (take i xs) ∙ (rw (length-take-le i xs (omega arith))) in
+      g ∙ (rw (← drop-drop k (k * i) bs, e, take-at w (drop (k * i) entry) (k * i) n, drop-at w (drop (k * i) entry) (k * i) n, add-one, take-suc xs i 0 h, bytes-snoc, mul-suc, append-assoc, drop-drop))
 
-pub bytes-done : (k i : ℕ) (xs entry bs : List ℕ) → i ≡ length xs → bs ≡ bytesOf k (take i xs) ++ drop (k * i) entry → bs ≡ stored k xs entry
-unfolding stored
-bytes-done k i xs entry bs h e = rw (h, take-length) at e
+  pub bytes-done : i ≡ length xs → bs ≡ stored k xs entry
+  unfolding stored
+  bytes-done h = rw (h, take-length) at e
 
 -- A list that the bytes fill, or that fills the bytes, is the carried list alone.
 pub loaded-all : (k : ℕ) (bs xs : List ℕ) → length xs ≡ length bs / k → loaded k bs xs ≡ numbersOf k (length xs) bs

@@ -1,34 +1,39 @@
 // Words and 16-bit lists carried as bytes, low byte first.
 ghost use mathlib.Core.Path.{_≡_};
-ghost use Prim.Native.Nat.{_*_, _/_, _^_, _<_, _≤_};
-ghost use lib.ListN.{length};
+ghost use Prim.Native.Nat.{_+_, _*_, _/_, _^_, _<_, _≤_};
+ghost use mathlib.Core.List.{_++_};
+ghost use lib.ListN.{length, take, drop};
 ghost use Rattle.carry.specs.Carried.{numberOf, digits, loaded, stored};
 
-// The number that at most eight bytes carry.
-fn read_number(b: &[u8]) -> u64
-    requires { ⌜ length (now b) ≤ 8 ⌝ }
-    ensures { λ r. ⌜ r ≡ numberOf (now (b .entry)) ⌝ }
-    ensures { λ r. ⌜ r < 256 ^ length (now (b .entry)) ⌝ }
+// The number that the k bytes from `at` on carry.
+fn read_number(bytes: &[u8], at: usize, k: usize) -> u64
+    requires { ⌜ k ≤ 8 ⌝ }
+    requires { ⌜ at + k ≤ length (now bytes) ⌝ }
+    ensures { λ r. ⌜ r ≡ numberOf (take k (drop at (now (bytes .entry)))) ⌝ }
+    ensures { λ r. ⌜ r < 256 ^ k ⌝ }
 {
+    let end = at + k;
     let mut x: u64 = 0;
-    let mut k = b.len();
-    while 0 < k {
-        k -= 1;
-        x = x * 256 + b[k] as u64;
+    let mut j = end;
+    while at < j {
+        j -= 1;
+        x = x * 256 + bytes[j] as u64;
     }
     x
 }
 
-// Writes the bytes that carry y, as many as b has.
-fn write_number(b: &mut [u8], y: u64)
-    ensures { λ _. ⌜ now (b .exit) ≡ digits (length (now (b .entry))) y ⌝ }
+// Writes the k bytes that carry y, from `at` on.
+fn write_number(bytes: &mut [u8], at: usize, k: usize, y: u64)
+    requires { ⌜ at + k ≤ length (now bytes) ⌝ }
+    ensures { λ _. ⌜ now (bytes .exit) ≡ take at (now (bytes .entry)) ++ (digits k y ++ drop (at + k) (now (bytes .entry))) ⌝ }
 {
+    let end = at + k;
     let mut x = y;
-    let mut i = 0;
-    while i < b.len() {
-        b[i] = (x % 256) as u8;
+    let mut j = at;
+    while j < end {
+        bytes[j] = (x % 256) as u8;
         x = x / 256;
-        i += 1;
+        j += 1;
     }
 }
 
@@ -40,9 +45,7 @@ pub fn load_words(bytes: &[u8], words: &mut [u64])
     let n = bytes.len() / 8;
     let mut i = 0;
     while i < n {
-        let at = 8 * i;
-        let end = at + 8;
-        words[i] = read_number(&bytes[at..end]);
+        words[i] = read_number(bytes, 8 * i, 8);
         i += 1;
     }
 }
@@ -54,9 +57,7 @@ pub fn store_words(words: &[u64], bytes: &mut [u8])
 {
     let mut i = 0;
     while i < words.len() {
-        let at = 8 * i;
-        let end = at + 8;
-        write_number(&mut bytes[at..end], words[i]);
+        write_number(bytes, 8 * i, 8, words[i]);
         i += 1;
     }
 }
@@ -69,9 +70,7 @@ pub fn load_numbers(bytes: &[u8], numbers: &mut [u16])
     let n = bytes.len() / 2;
     let mut i = 0;
     while i < n {
-        let at = 2 * i;
-        let end = at + 2;
-        numbers[i] = read_number(&bytes[at..end]) as u16;
+        numbers[i] = read_number(bytes, 2 * i, 2) as u16;
         i += 1;
     }
 }
@@ -83,9 +82,7 @@ pub fn store_numbers(numbers: &[u16], bytes: &mut [u8])
 {
     let mut i = 0;
     while i < numbers.len() {
-        let at = 2 * i;
-        let end = at + 2;
-        write_number(&mut bytes[at..end], numbers[i] as u64);
+        write_number(bytes, 2 * i, 2, numbers[i] as u64);
         i += 1;
     }
 }

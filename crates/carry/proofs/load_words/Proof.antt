@@ -1,12 +1,12 @@
 -- `load_words`: the first i numbers are read, and the rest is as it was.
-use Prim.Native.Nat.{_+_, _-_, _*_, _/_, _≤_}
-use mathlib.Core.Path.{_≡_, refl, _∙_}
+use Prim.Native.Nat.{_-_, _≤_}
+use mathlib.Core.Path.{_≡_, refl}
 use mathlib.Core.List.{_++_}
 use native.Mathlib.Omega.{arith}
 use borrow.Author.Needs.{needs}
-use lib.ListN.{length, take, drop, length-set}
+use lib.ListN.{length, drop, length-set}
 use Rattle.carry.specs.Carried.{numbersOf}
-use Rattle.carry.proofs.Laws.{numbers-more, numbers-done, part-length}
+use Rattle.carry.proofs.Laws.{numbers-more, numbers-done}
 use Rattle.carry.proofs.load_words.Statement.{statement}
 use Rattle.carry.proofs.load_words.Tie as tie
 
@@ -20,23 +20,11 @@ loop-holds : tie.Need-loop-holds Inv-loop μ-loop
 unfolding numbersOf
 loop-holds c = (refl, search needs, refl)
 
-mul-at : tie.Need-mul-at Inv-loop μ-loop
-mul-at c = search needs
-
-add-end : tie.Need-add-end Inv-loop μ-loop
-add-end c = search needs
-
-sub-read-number : tie.Need-sub-read-number Inv-loop μ-loop
-sub-read-number c = search needs
-
-part-read-number-start : tie.Need-part-read-number-start Inv-loop μ-loop
-part-read-number-start c = search needs
-
-part-read-number-end : tie.Need-part-read-number-end Inv-loop μ-loop
-part-read-number-end c = search needs
+mul-read-number : tie.Need-mul-read-number Inv-loop μ-loop
+mul-read-number c = search needs
 
 read-number-requires : tie.Need-read-number-requires Inv-loop μ-loop
-read-number-requires c κs = rw (part-length 8 (c .before .before .loop .i) (c .before .before .before .before .before .args .bytes .now) (omega arith)) (search needs)
+read-number-requires c κs = search needs
 
 mul-words : tie.Need-mul-words Inv-loop μ-loop
 mul-words c = search needs
@@ -52,18 +40,18 @@ loop-less c = search needs
 
 loop-again : tie.Need-loop-again Inv-loop μ-loop
 loop-again c =
-    let l = c .before .before .before .loop in
-    let args = c .before .before .before .before .before .before .args in
-    (simp length-set (l .inv .0), search needs, numbers-more 8 (l .i) (c .read-number .result) (args .bytes .now) (args .words .now) (l .words) (omega arith) (c .read-number .ensures .0) (l .inv .2))
+    let a = c .before .before .before .before .before .args in
+    let l = c .before .before .loop in
+    (simp length-set (l .inv .0), search needs, numbers-more 8 (l .i) (a .bytes .now) (a .words .now) (l .words) (l .inv .2) (c .read-number .result) (omega arith) (c .read-number .ensures .0))
 
 same-length : tie.Need-same-length Inv-loop μ-loop
 same-length c = search needs
 
 returns : tie.Need-returns Inv-loop μ-loop
 returns c =
+    let a = c .before .before .before .before .args in
     let l = c .before .loop in
-    let args = c .before .before .before .before .args in
-    numbers-done 8 (l .i) (args .bytes .now) (args .words .now) (l .words) (omega arith) (l .inv .2)
+    numbers-done 8 (l .i) (a .bytes .now) (a .words .now) (l .words) (l .inv .2) (omega arith)
 
 pub load-words-spec : {M : Type 1} → statement M
 load-words-spec =
@@ -72,11 +60,7 @@ load-words-spec =
     Inv-loop
     μ-loop
     loop-holds
-    mul-at
-    add-end
-    sub-read-number
-    part-read-number-start
-    part-read-number-end
+    mul-read-number
     read-number-requires
     mul-words
     slice-write-words

@@ -1,11 +1,10 @@
 -- `store_words`: the bytes of the first i numbers are written, and the rest is as it was.
-use Prim.Native.Nat.{_+_, _-_, _*_, _≤_}
+use Prim.Native.Nat.{_-_, _*_, _≤_}
 use mathlib.Core.Path.{_≡_, refl, _∙_}
 use mathlib.Core.List.{_++_}
 use native.Mathlib.Omega.{arith}
 use borrow.Author.Needs.{needs}
-use borrow.Rule.Slice.PartMut.{same-len-mid}
-use lib.ListN.{length, getD, take, drop}
+use lib.ListN.{length, take, drop}
 use Rattle.carry.specs.Carried.{bytesOf}
 use Rattle.carry.proofs.Laws.{bytes-more, bytes-done}
 use Rattle.carry.proofs.store_words.Statement.{statement}
@@ -21,23 +20,11 @@ loop-holds : tie.Need-loop-holds Inv-loop μ-loop
 unfolding bytesOf
 loop-holds c = (refl, search needs, refl)
 
-mul-at : tie.Need-mul-at Inv-loop μ-loop
-mul-at c = search needs
-
-add-end : tie.Need-add-end Inv-loop μ-loop
-add-end c = search needs
-
-sub-write-number : tie.Need-sub-write-number Inv-loop μ-loop
-sub-write-number c = search needs
-
-part-write-number-start : tie.Need-part-write-number-start Inv-loop μ-loop
-part-write-number-start c = search needs
-
-part-write-number-end : tie.Need-part-write-number-end Inv-loop μ-loop
-part-write-number-end c = search needs
-
 mul-write-number : tie.Need-mul-write-number Inv-loop μ-loop
 mul-write-number c = search needs
+
+mul-write-number-2 : tie.Need-mul-write-number-2 Inv-loop μ-loop
+mul-write-number-2 c = search needs
 
 shared-slice-read-write-number : tie.Need-shared-slice-read-write-number Inv-loop μ-loop
 shared-slice-read-write-number c = search needs
@@ -53,19 +40,19 @@ loop-less c = search needs
 
 loop-again : tie.Need-loop-again Inv-loop μ-loop
 loop-again c =
+    let a = c .before .before .before .before .before .before .before .before .before .args in
     let l = c .before .before .before .before .before .before .loop in
-    let args = c .before .before .before .before .before .before .before .before .before .args in
     let w = c .before .before .write-number in
-    (same-len-mid (8 * l .i) (8 * l .i + 8 - 8 * l .i) (l .bytes) (w .last .0) (w .kept .0) ∙ l .inv .0, search needs, bytes-more 8 (l .i) (args .words .now) (args .bytes .now) (l .bytes) (w .last .0) (omega arith) (l .inv .0) (omega arith) (w .ensures) (l .inv .2))
+    (w .kept .0 ∙ l .inv .0, search needs, bytes-more 8 (l .i) (a .words .now) (a .bytes .now) (l .bytes) (l .inv .2) (w .last .0) (omega arith) (w .ensures))
 
 same-length : tie.Need-same-length Inv-loop μ-loop
 same-length c = search needs
 
 returns : tie.Need-returns Inv-loop μ-loop
 returns c =
+    let a = c .before .before .before .before .args in
     let l = c .before .loop in
-    let args = c .before .before .before .before .args in
-    bytes-done 8 (l .i) (args .words .now) (args .bytes .now) (l .bytes) (omega arith) (l .inv .2)
+    bytes-done 8 (l .i) (a .words .now) (a .bytes .now) (l .bytes) (l .inv .2) (omega arith)
 
 pub store-words-spec : {M : Type 1} → statement M
 store-words-spec =
@@ -74,12 +61,8 @@ store-words-spec =
     Inv-loop
     μ-loop
     loop-holds
-    mul-at
-    add-end
-    sub-write-number
-    part-write-number-start
-    part-write-number-end
     mul-write-number
+    mul-write-number-2
     shared-slice-read-write-number
     write-number-requires
     add-i
