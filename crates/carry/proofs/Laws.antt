@@ -1,7 +1,7 @@
 -- Laws of numbers carried as bytes, over any width k: what one turn of each loop does.
 use Prim.Native.Nat.{ℕ, zero, suc, _+_, _-_, _*_, _/_, _%_, _^_, _<_, _≤_}
 use mathlib.Core.Path.{_≡_, refl, sym, ap, _∙_}
-use mathlib.Core.List.{List, [], _∷_, _++_, append-assoc}
+use mathlib.Core.List.{List, [], _∷_, _++_, append-assoc, append-nil}
 use native.Mathlib.Nat.{pow-le-pow-right, pow-suc, not-suc-le-zero, mul-suc, mul-zero}
 use native.Mathlib.Numerals.{add-one, sub-one}
 use native.Mathlib.Omega.{arith}
@@ -9,10 +9,6 @@ use lib.Dec.{lit<}
 use lib.ListN.{length, getD, take, drop, set, length-append, take-append-drop}
 use lib.Seq.{append-snoc, take-suc, take-suc-set, take-length, take-at, take-add, drop-cons, drop-drop, drop-at, drop-length, set-at, length-take-le, slice, slice-empty, slice-cons}
 use Rattle.carry.specs.Carried.{numberOf, digits, numbersOf, bytesOf, loaded, stored}
-
-append-nil : (l : List ℕ) → l ++ [] ≡ l
-append-nil [] = refl
-append-nil (x ∷ xs) = ap (λ (r : List ℕ). x ∷ r) (append-nil xs)
 
 -- Reading a number, from its last byte down: x is what the bytes from j to t carry.
 pub number-start : (t : ℕ) (b : List ℕ) → 0 ≡ numberOf (slice t t b)
