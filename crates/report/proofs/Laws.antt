@@ -8,7 +8,7 @@ use native.Mathlib.Numerals.{add-one}
 use native.Mathlib.Omega.{arith}
 use borrow.Author.Tests.{lt-ltb, le-ltb, ltb-true, ltb-false}
 use lib.Dec.{ltb}
-use lib.ListN.{length, getD, take, drop, set, length-append, length-drop, take-append-drop}
+use lib.ListN.{length, getD, take, drop, set, length-append, length-drop, take-append-drop, List·getD-append}
 use lib.Seq.{append-snoc, take-suc, drop-cons, set-at, length-take-le, take-at, drop-at, drop-drop}
 use Rattle.report.specs.Decimal.{decimalIn, decimal, written}
 
@@ -64,6 +64,19 @@ shown-in (suc k) x h =
 pub decimal-shown : (x : ℕ) → shown 0 (decimal x) ≡ x
 unfolding decimal
 decimal-shown x = shown-in (suc x) x (omega arith)
+
+-- no leading zero
+decimal-some : (x : ℕ) → 0 < length (decimal x)
+decimal-some x = one-or-more x (λ l. rw (decimal-one x l) (omega arith)) (λ l. rw (decimal-more x l, length-append) (omega arith))
+
+leads : (k x : ℕ) → x < k → 0 < x → 48 < getD (decimal x) 0 0
+leads zero x h g = absurd (omega arith)
+leads (suc k) x h g =
+    one-or-more x (λ l. rw (decimal-one x l) (omega arith)) (λ l.
+    rw (decimal-more x l, List·getD-append (decimal (x / 10)) ((48 + x % 10) ∷ []) 0 0 (decimal-some (x / 10))) (leads k (x / 10) (omega arith) (omega arith)))
+
+pub decimal-leads : (x : ℕ) → 0 < x → 48 < getD (decimal x) 0 0
+decimal-leads x g = leads (suc x) x (omega arith) g
 
 -- Text in a buffer: none, one byte more, more text.
 pub written-none : (at : ℕ) (buffer : List ℕ) → written at [] buffer ≡ buffer

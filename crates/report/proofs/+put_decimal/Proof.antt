@@ -75,7 +75,7 @@ module _ (t : ℕ) where
       let a = c .before .before .before .before .before .before .args in
       let w = c .before .before .put-decimal in
       let h : 10 ≤ a .x = omega arith in
-      let l = short (c .before .before .before .before .before .before .args .x) (omega arith) in
+      let l = short (a .x) (omega arith) in
       (rw (decimal-more (a .x) h, length-append) (omega arith), digit-more (a .at) (a .x) (w .result) (a .out .now) (w .last .0) h (omega arith) (w .ensures .0) (w .ensures .1))
 
 pub +put-decimal-spec : {M : Type 1} → statement M
