@@ -1,0 +1,3 @@
+-- What the proofs use, and the laws that callers cite.
+pub mod Laws
+mod Cases
