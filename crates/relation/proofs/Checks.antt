@@ -79,13 +79,17 @@ included-any k A B = ⊎-elim
 
 -- ---- inclusion of a matrix's rows
 
+pub row-included : (n : ℕ) (g : List ℕ) (p : ℕ) (A B : ℕ → Bool) → Matrix n g → p < n → ((q : ℕ) → q < n → A q ≡ B q)
+    → includedBelow (rowWords n * 64) (inRow (drop (p * rowWords n) g)) A ≡ includedBelow n (relationOf n g p) B
+unfolding includedBelow
+row-included n g p A B ok hp same =
+    all-cong (rowWords n * 64) _ _ (λ i l. ap (λ (b : Bool). b ⇒ A i) (inRow-drop (rowWords n) g p i))
+    ∙ all-shorter n (rowWords n * 64) (λ i. relationOf n g p i ⇒ A i) (omega arith) (λ i h l. ap (λ (b : Bool). b ⇒ A i) (ok .clear p i hp h l))
+    ∙ all-cong n _ _ (λ i h. ap (λ (b : Bool). relationOf n g p i ⇒ b) (same i h))
+
 pub rows-within : (n : ℕ) (g : List ℕ) (p q : ℕ) → Matrix n g → p < n
     → includedBelow (rowWords n * 64) (inRow (drop (p * rowWords n) g)) (inRow (drop (q * rowWords n) g)) ≡ includedBelow n (relationOf n g p) (relationOf n g q)
-unfolding includedBelow
-rows-within n g p q ok hp =
-    all-cong (rowWords n * 64) _ _ (λ i l. ap₂ _⇒_ (inRow-drop (rowWords n) g p i) (inRow-drop (rowWords n) g q i))
-    ∙ all-shorter n (rowWords n * 64) (λ i. _⇒_ (relationOf n g p i) (relationOf n g q i)) (omega arith)
-    (λ i h l. ap (λ (b : Bool). _⇒_ b (relationOf n g q i)) (ok .clear p i hp h l))
+rows-within n g p q ok hp = row-included n g p _ _ ok hp (λ i h. inRow-drop (rowWords n) g q i)
 
 -- a row of a matrix and a set, two rows of matrices
 pub rows-meet : (n : ℕ) (g : List ℕ) (p : ℕ) (S : ℕ → Bool) → Matrix n g → p < n

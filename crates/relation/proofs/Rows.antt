@@ -13,9 +13,10 @@ use lib.Seq.{getD-drop, getD-append-add, getD-set-same, getD-set-other}
 use lib.Dec.{eqb}
 use lib.Pow.{pow-pos}
 use borrow.Author.Tests.{eq-eqb, ne-eqb}
+use Rattle.lts.specs.Bounded.{anyBelow}
 use Rattle.relation.specs.Matrix.{bit, inRow, wordAt, rowOf}
 use Rattle.relation.proofs.Bits.{word-ext, wordOf-lt, bit-wordOf, bit-and, bit-or, bit-xor, bit-not, bit-pow, one-shl}
-use Rattle.relation.proofs.Bounded.{listBelow-cong, getD-listBelow, length-listBelow, fill-more, getD-fill, list-ext, lt-or-ge}
+use Rattle.relation.proofs.Bounded.{any-more, listBelow-cong, getD-listBelow, length-listBelow, fill-more, getD-fill, list-ext, lt-or-ge}
 
 -- ---- a row of words
 
@@ -158,3 +159,39 @@ row-insert row q h words =
         bit-or (getD row (q / 64) 0) (1 * 2 ^ (q % 64) % 2 ^ 64) i
         ∙ ap₂ _||_ (sym (inRow-at row (q / 64) i l)) (ap (λ (x : ℕ). bit x i) (one-shl (q % 64) low) ∙ bit-pow (q % 64) i ∙ place i l)
         ∙ swap (inRow row (q / 64 * 64 + i)) (eqb (q / 64 * 64 + i) q))
+
+or-false : (b : Bool) → b || false ≡ b
+or-false true = refl
+or-false false = refl
+
+-- ---- a set that is gathered turn by turn: after j turns the row has what it had, and each q with H q i for an i below j
+
+module _ (d : List ℕ) (H : ℕ → ℕ → Bool) where
+  abbrev pub gathered : ℕ → List ℕ
+  gathered j = rowOf (length d) (λ q. inRow d q || anyBelow j (H q))
+
+  pub gather-none : ((j : ℕ) → getD d j 0 < 2 ^ 64) → d ≡ gathered 0
+  unfolding anyBelow
+  gather-none words = row-ext (length d) _ d refl words (λ q h. sym (or-false (inRow d q)))
+
+  -- turn j puts s in, and no other state
+  pub gather-in : (j s : ℕ) {row : List ℕ} → row ≡ gathered j → ((q : ℕ) → H q j ≡ eqb q s) → rowOf (length row) (λ x. eqb x s || inRow row x) ≡ gathered (j + 1)
+  gather-in j s {row} now this =
+      ap (λ (k : ℕ). rowOf k (λ x. eqb x s || inRow row x)) (ap length now ∙ length-listBelow (length d) (wordAt (λ q. inRow d q || anyBelow j (H q))))
+      ∙ rowOf-cong (length d) _ _ (λ q h.
+      ap (λ (b : Bool). eqb q s || b) (ap (λ (l : List ℕ). inRow l q) now ∙ inRow-of (length d) _ q h)
+      ∙ turn (eqb q s) (inRow d q) (anyBelow j (H q))
+      ∙ ap (λ (b : Bool). inRow d q || b) (ap (λ (b : Bool). anyBelow j (H q) || b) (sym (this q)) ∙ sym (any-more (H q) j)))
+    where
+      turn : (a b c : Bool) → a || (b || c) ≡ b || (c || a)
+      turn true true c = refl
+      turn true false true = refl
+      turn true false false = refl
+      turn false true c = refl
+      turn false false c = sym (or-false c)
+
+  -- turn j puts nothing in
+  pub gather-out : (j : ℕ) {row : List ℕ} → row ≡ gathered j → ((q : ℕ) → H q j ≡ false) → row ≡ gathered (j + 1)
+  gather-out j now this =
+      now ∙ rowOf-cong (length d) _ _ (λ q h.
+      ap (λ (b : Bool). inRow d q || b) (sym (or-false (anyBelow j (H q))) ∙ ap (λ (b : Bool). anyBelow j (H q) || b) (sym (this q)) ∙ sym (any-more (H q) j)))
