@@ -1,0 +1,279 @@
+-- Laws of the tests: what a test over every number below a bound says, inclusion of words and rows, and the bits from n on. Assumes nothing.
+use mathlib.Core.Path.{_≡_, refl, sym, ap, ap₂, _∙_, subst, subst⁻¹}
+use mathlib.Core.Bool.{Bool, true, false, cond, not, _&&_, _||_, xor}
+use mathlib.Core.List.{List}
+use mathlib.Core.Logic.{⊎-elim}
+use Prim.Native.Nat.{ℕ, _+_, _-_, _*_, _/_, _%_, _^_, _≤_, _<_}
+use native.Mathlib.Nat.{div-lt-iff-lt-mul, mod-lt, div-add-mod'}
+use native.Mathlib.Omega.{arith}
+use lib.Dec.{T, eqb}
+use lib.Pow.{shr-shr, shr-lt}
+use lib.Count.{trailingZeros}
+use lib.ListN.{length, getD, drop}
+use borrow.Author.Tests.{lt-ltb, le-ltb, eq-eqb, ne-eqb, eqb-true, not-true}
+use Rattle.relation.specs.Matrix.{bit, inRow, inMatrix, relationOf, rowWords, Matrix}
+use Rattle.relation.specs.Check.{includedBelow, withinBelow, reflexiveBelow, transitivePair, transitiveAt, transitiveBelow, clearAt, isMatrix, checkPreorder}
+use Rattle.relation.specs.declared.Checked.the-variants.{Preorder, Refused}
+use Rattle.lts.specs.declared.Refusal.the-variants.{Grid, NotReflexive, NotTransitive}
+use Rattle.lts.specs.System.{Lts, allStates, reflexive, transitive}
+use Rattle.lts.specs.Bounded.{lowest, anyBelow, allBelow, _⇒_}
+use Rattle.relation.proofs.Bits.{word-ext, bit-of-zero, word-zero}
+use Rattle.relation.proofs.Rows.{Bitwise, inRow-at}
+use Rattle.relation.proofs.Bounded.{any-cong, any-shorter, lowest-cong, lowest-shorter, all-at, all-cong, all-of, all-shorter, all-yes, and-fst, and-snd, bool-iff, clash, lt-or-ge, any-yes, any-no, any-some, either, all-not, true-T}
+use Rattle.relation.proofs.Counts.{trailing-lt, trailing-at}
+use Rattle.relation.proofs.Matrices.{inRow-drop, inMatrix-at, pair-word, width-positive}
+
+-- ---- numbers in blocks of 64
+
+pub block-more : (P : ℕ → Type 0) (c t : ℕ) → ((q : ℕ) → q < c * 64 → P q) → ((i : ℕ) → i < t → P (c * 64 + i)) → (q : ℕ) → q < c * 64 + t → P q
+block-more P c t below here q h =
+    ⊎-elim (λ (l : q < c * 64). below q l)
+    (λ (l : c * 64 ≤ q). let split : c * 64 + (q - c * 64) ≡ q = omega arith in subst P split (here (q - c * 64) (omega arith)))
+    (lt-or-ge q (c * 64))
+
+-- ---- a test of two rows by a bitwise operation on their words: is the word 0?
+
+module _ (op : ℕ → ℕ → ℕ) (β : Bool → Bool → Bool) (ok : Bitwise op β) (a b : List ℕ) (c : ℕ) (ha : getD a c 0 < 2 ^ 64) (hb : getD b c 0 < 2 ^ 64) where
+  at-bit : (i : ℕ) → i < 64 → β (inRow a (c * 64 + i)) (inRow b (c * 64 + i)) ≡ bit (op (getD a c 0) (getD b c 0)) i
+  at-bit i l = ap₂ β (inRow-at a c i l) (inRow-at b c i l) ∙ sym (ok .bits _ _ i ha hb l)
+
+  -- it is not: some member is found
+  pub word-found : (k : ℕ) → c < k → (op (getD a c 0) (getD b c 0) ≡ 0 → ⊥) → true ≡ anyBelow (k * 64) (λ q. β (inRow a q) (inRow b q))
+  word-found k h ne =
+      let z = op (getD a c 0) (getD b c 0) in
+      let low = trailing-lt 64 z (ok .small _ _ ha hb) ne in
+      any-yes (k * 64) _ (c * 64 + trailingZeros 64 z) (omega (arith, low)) (at-bit (trailingZeros 64 z) low ∙ trailing-at 64 z low)
+
+  -- it is: none in this word
+  pub word-passed : op (getD a c 0) (getD b c 0) ≡ 0 → ((q : ℕ) → q < c * 64 → β (inRow a q) (inRow b q) ≡ false)
+      → (q : ℕ) → q < (c + 1) * 64 → β (inRow a q) (inRow b q) ≡ false
+  word-passed e none q h =
+      block-more (λ q. β (inRow a q) (inRow b q) ≡ false) c 64 none (λ i l. at-bit i l ∙ ap (λ (z : ℕ). bit z i) e ∙ bit-of-zero i) q (omega arith)
+
+pub none-passed : (k c : ℕ) (f : ℕ → Bool) → c ≡ k → ((q : ℕ) → q < c * 64 → f q ≡ false) → false ≡ anyBelow (k * 64) f
+none-passed k c f e none = any-no (k * 64) f (λ q h. none q (omega arith))
+
+-- inclusion: no member of A is outside B
+pub included-any : (k : ℕ) (A B : ℕ → Bool) → not (anyBelow k (λ q. A q && not (B q))) ≡ includedBelow k A B
+unfolding includedBelow
+included-any k A B = ⊎-elim
+    (λ p. let s = any-some k outside p in ap not p ∙ all-not k _ (s .0) (s .1) (out (A (s .0)) (B (s .0)) (s .2)))
+    (λ p. ap not p ∙ all-yes k _ (λ q h. inside (A q) (B q) (not-any q h p)))
+    (either (anyBelow k outside))
+  where
+    outside : ℕ → Bool
+    outside q = A q && not (B q)
+
+    not-any : (q : ℕ) → q < k → anyBelow k outside ≡ false → outside q ≡ false
+    not-any q h p = ⊎-elim (λ e. absurd (clash (sym (any-yes k outside q h e)) p)) (λ e. e) (either (outside q))
+
+    out : (a b : Bool) → a && not b ≡ true → (a ⇒ b) ≡ false
+    out true true p = sym p
+    out true false p = refl
+    out false b p = absurd (clash p refl)
+
+    inside : (a b : Bool) → a && not b ≡ false → (a ⇒ b) ≡ true
+    inside true true p = refl
+    inside true false p = sym p
+    inside false b p = refl
+
+-- ---- inclusion of a matrix's rows
+
+pub row-included : (n : ℕ) (g : List ℕ) (p : ℕ) (A B : ℕ → Bool) → Matrix n g → p < n → ((q : ℕ) → q < n → A q ≡ B q)
+    → includedBelow (rowWords n * 64) (inRow (drop (p * rowWords n) g)) A ≡ includedBelow n (relationOf n g p) B
+unfolding includedBelow
+row-included n g p A B ok hp same =
+    all-cong (rowWords n * 64) _ _ (λ i l. ap (λ (b : Bool). b ⇒ A i) (inRow-drop (rowWords n) g p i))
+    ∙ all-shorter n (rowWords n * 64) (λ i. relationOf n g p i ⇒ A i) (omega arith) (λ i h l. ap (λ (b : Bool). b ⇒ A i) (ok .clear p i hp h l))
+    ∙ all-cong n _ _ (λ i h. ap (λ (b : Bool). relationOf n g p i ⇒ b) (same i h))
+
+pub rows-within : (n : ℕ) (g : List ℕ) (p q : ℕ) → Matrix n g → p < n
+    → includedBelow (rowWords n * 64) (inRow (drop (p * rowWords n) g)) (inRow (drop (q * rowWords n) g)) ≡ includedBelow n (relationOf n g p) (relationOf n g q)
+rows-within n g p q ok hp = row-included n g p _ _ ok hp (λ i h. inRow-drop (rowWords n) g q i)
+
+-- a row of a matrix and a set, two rows of matrices
+pub rows-meet : (n : ℕ) (g : List ℕ) (p : ℕ) (S : ℕ → Bool) → Matrix n g → p < n
+    → anyBelow (rowWords n * 64) (λ q. inRow (drop (p * rowWords n) g) q && S q) ≡ anyBelow n (λ q. relationOf n g p q && S q)
+rows-meet n g p S ok hp =
+    any-cong (rowWords n * 64) _ _ (λ q l. ap (λ (b : Bool). b && S q) (inRow-drop (rowWords n) g p q))
+    ∙ any-shorter n (rowWords n * 64) (λ q. relationOf n g p q && S q) (omega arith) (λ q h l. ap (λ (b : Bool). b && S q) (ok .clear p q hp h l))
+
+pub rows-differ : (n : ℕ) (g h : List ℕ) (p r : ℕ) → Matrix n g → Matrix n h → p < n → r < n
+    → anyBelow (rowWords n * 64) (λ q. xor (inRow (drop (p * rowWords n) g) q) (inRow (drop (r * rowWords n) h) q)) ≡ anyBelow n (λ q. xor (relationOf n g p q) (relationOf n h r q))
+unfolding xor
+rows-differ n g h p r okg okh hp hr =
+    any-cong (rowWords n * 64) _ _ (λ q l. ap₂ xor (inRow-drop (rowWords n) g p q) (inRow-drop (rowWords n) h r q))
+    ∙ any-shorter n (rowWords n * 64) (λ q. xor (relationOf n g p q) (relationOf n h r q)) (omega arith)
+    (λ q l u. ap₂ xor (okg .clear p q hp l u) (okh .clear r q hr l u))
+
+-- the lowest state of a row that has one
+pub row-lowest : (n : ℕ) (g : List ℕ) (p q : ℕ) → p < n → q < n → relationOf n g p q ≡ true
+    → lowest (rowWords n * 64) (inRow (drop (p * rowWords n) g)) ≡ lowest n (relationOf n g p)
+row-lowest n g p q hp hq e =
+    lowest-cong (rowWords n * 64) _ _ (λ i. inRow-drop (rowWords n) g p i) ∙ lowest-shorter n (rowWords n * 64) (relationOf n g p) (omega arith) q hq e
+
+-- ---- the bits of a word from m on: none is set where `x >> m` is 0
+
+pub bit-shr : (x m i : ℕ) → bit (x / 2 ^ m) i ≡ bit x (m + i)
+unfolding bit
+bit-shr x m i = ap (λ (y : ℕ). eqb (y % 2) 1) (shr-shr x m i)
+
+pub high-none : (x m : ℕ) → x / 2 ^ m ≡ 0 → (i : ℕ) → m ≤ i → bit x i ≡ false
+high-none x m e i h =
+    let split : i ≡ m + (i - m) = omega arith in
+    ap (bit x) split ∙ sym (bit-shr x m (i - m)) ∙ ap (λ (y : ℕ). bit y (i - m)) e ∙ bit-of-zero (i - m)
+
+pub high-zero : (x m k : ℕ) → x < 2 ^ (k + m) → ((i : ℕ) → m ≤ i → i < k + m → bit x i ≡ false) → x / 2 ^ m ≡ 0
+high-zero x m k h none = word-ext k (λ i. false) (shr-lt k m h) (λ i l. bit-shr x m i ∙ none (m + i) (omega arith) (omega arith)) ∙ word-zero k
+
+-- ---- a row with no bit at q ≥ n
+
+module _ (n : ℕ) (g : List ℕ) (p : ℕ) where
+  -- n fills its words
+  pub clear-full : n % 64 ≡ 0 → true ≡ clearAt n g p
+  clear-full e = all-yes _ _ (λ q h. rw (lt-ltb q n (omega arith)))
+
+  high-bit : (i : ℕ) → i < 64 → relationOf n g p (n / 64 * 64 + i) ≡ bit (getD g (p * rowWords n + n / 64) 0) i
+  high-bit i l = inMatrix-at (rowWords n) g p (n / 64) i l
+
+  pub clear-last : 0 < n % 64 → getD g (p * rowWords n + n / 64) 0 < 2 ^ 64 → eqb (getD g (p * rowWords n + n / 64) 0 / 2 ^ (n % 64)) 0 ≡ clearAt n g p
+  clear-last h fits = bool-iff there back
+    where
+      x : ℕ
+      x = getD g (p * rowWords n + n / 64) 0
+
+      m : ℕ
+      m = n % 64
+
+      out : (q : ℕ) → x / 2 ^ m ≡ 0 → n ≤ q → q < rowWords n * 64 → relationOf n g p q ≡ false
+      out q e l u =
+          let i = q - n / 64 * 64 in
+          let split : q ≡ n / 64 * 64 + i = omega arith in
+          ap (relationOf n g p) split ∙ high-bit i (omega arith) ∙ high-none x m e i (omega arith)
+
+      there : eqb (x / 2 ^ m) 0 ≡ true → clearAt n g p ≡ true
+      there e = all-of _ _ (λ q u. ⊎-elim (λ (l : q < n). ap (λ (b : Bool). b || not (relationOf n g p q)) (lt-ltb q n l))
+          (λ (l : n ≤ q). ap₂ (λ (a b : Bool). a || not b) (le-ltb q n l) (out q (eqb-true (x / 2 ^ m) 0 e) l u)) (lt-or-ge q n))
+
+      back : clearAt n g p ≡ true → eqb (x / 2 ^ m) 0 ≡ true
+      back e =
+          let room : m < 64 = mod-lt n (omega arith) in
+          let whole : 64 - m + m ≡ 64 = omega arith in
+          eq-eqb (x / 2 ^ m) 0 (high-zero x m (64 - m) (subst⁻¹ (λ (k : ℕ). x < 2 ^ k) whole fits) (λ i l u.
+          let q = n / 64 * 64 + i in
+          sym (high-bit i (omega arith))
+          ∙ not-true (relationOf n g p q) (sym (ap (λ (b : Bool). b || not (relationOf n g p q)) (le-ltb q n (omega arith))) ∙ all-at _ _ e q (omega arith))))
+
+-- ---- the test of a matrix says that it is one
+
+pub matrix-test : (n : ℕ) (g : List ℕ) → isMatrix n g ≡ true → Matrix n g
+unfolding isMatrix
+matrix-test n g e = record {
+  long = eqb-true _ _ (and-fst (eqb (length g) (n * rowWords n)) (allBelow n (clearAt n g)) e);
+  clear = λ p q hp l u.
+      not-true (relationOf n g p q) (sym (ap (λ (b : Bool). b || not (relationOf n g p q)) (le-ltb q n l)) ∙ all-at _ _ (all-at n (clearAt n g) (and-snd (eqb (length g) (n * rowWords n)) (allBelow n (clearAt n g)) e) p hp) q u);
+}
+
+pub test-matrix : (n : ℕ) (g : List ℕ) → Matrix n g → isMatrix n g ≡ true
+unfolding isMatrix
+test-matrix n g ok =
+    ap₂ _&&_ (eq-eqb _ _ (ok .long)) (all-of n (clearAt n g) (λ p hp. all-of _ _ (λ q u.
+    ⊎-elim (λ (l : q < n). ap (λ (b : Bool). b || not (relationOf n g p q)) (lt-ltb q n l))
+    (λ (l : n ≤ q). ap₂ (λ (a b : Bool). a || not b) (le-ltb q n l) (ok .clear p q hp l u)) (lt-or-ge q n))))
+
+pub wrong-length : (n : ℕ) (g : List ℕ) → (length g ≡ n * rowWords n → ⊥) → false ≡ isMatrix n g
+unfolding isMatrix
+wrong-length n g h = sym (ap (λ (b : Bool). b && allBelow n (clearAt n g)) (ne-eqb (length g) (n * rowWords n) h))
+
+pub right-length : (n : ℕ) (g : List ℕ) → length g ≡ n * rowWords n → allBelow n (clearAt n g) ≡ isMatrix n g
+unfolding isMatrix
+right-length n g h = sym (ap (λ (b : Bool). b && allBelow n (clearAt n g)) (eq-eqb (length g) (n * rowWords n) h))
+
+-- ---- transitivity by rows
+
+pub pair-none : (n : ℕ) (R : ℕ → ℕ → Bool) (p q : ℕ) → R p q ≡ false → true ≡ transitivePair n R p q
+unfolding transitivePair
+pair-none n R p q e = all-yes n _ (λ r h. ap (λ (b : Bool). b && R q r ⇒ R p r) e)
+
+pub pair-some : (n : ℕ) (R : ℕ → ℕ → Bool) (p q : ℕ) → R p q ≡ true → includedBelow n (R q) (R p) ≡ transitivePair n R p q
+unfolding transitivePair includedBelow
+pair-some n R p q e = all-cong n _ _ (λ r h. sym (ap (λ (b : Bool). b && R q r ⇒ R p r) e))
+
+-- ---- a matrix as one row
+
+pub inRow-flat : (w : ℕ) (g : List ℕ) (p q : ℕ) → inRow g (p * w * 64 + q) ≡ inMatrix w g p q
+unfolding inMatrix
+inRow-flat w g p q =
+    let split : p * w * 64 + q ≡ (p * w + q / 64) * 64 + q % 64 = omega arith in
+    ap (inRow g) split ∙ inRow-at g (p * w + q / 64) (q % 64) (mod-lt q (omega arith))
+
+pub matrix-included : (n : ℕ) (a b : List ℕ) → Matrix n a → includedBelow (length a * 64) (inRow a) (inRow b) ≡ withinBelow n (relationOf n a) (relationOf n b)
+unfolding includedBelow withinBelow
+matrix-included n a b ok = bool-iff there back
+  where
+    w : ℕ
+    w = rowWords n
+
+    at : (p q : ℕ) → (inRow a (p * w * 64 + q) ⇒ inRow b (p * w * 64 + q)) ≡ (relationOf n a p q ⇒ relationOf n b p q)
+    at p q = ap₂ _⇒_ (inRow-flat w a p q) (inRow-flat w b p q)
+
+    there : allBelow (length a * 64) (λ x. inRow a x ⇒ inRow b x) ≡ true → allBelow n (λ p. allBelow n (λ q. relationOf n a p q ⇒ relationOf n b p q)) ≡ true
+    there e = all-of n _ (λ p hp. all-of n _ (λ q hq.
+        sym (at p q) ∙ all-at _ _ e (p * w * 64 + q) (omega (arith, pair-word n a hp hq (ok .long)))))
+
+    back : allBelow n (λ p. allBelow n (λ q. relationOf n a p q ⇒ relationOf n b p q)) ≡ true → allBelow (length a * 64) (λ x. inRow a x ⇒ inRow b x) ≡ true
+    back e = all-of _ _ (λ x hx.
+        let word : x / 64 < n * w = omega (arith, ok .long) in
+        let pos : 0 < w = width-positive n w word in
+        let p = x / 64 / w in
+        let q = x / 64 % w * 64 + x % 64 in
+        let hp : p < n = div-lt-iff-lt-mul pos .1 word in
+        let col : x / 64 % w < w = mod-lt (x / 64) pos in
+        let split : x ≡ p * w * 64 + q = omega (arith, div-add-mod' (x / 64) w) in
+        ap (λ (y : ℕ). inRow a y ⇒ inRow b y) split ∙ at p q
+        ∙ ⊎-elim (λ (h : q < n). all-at n _ (all-at n _ e p hp) q h)
+        (λ (h : n ≤ q). ap (λ (t : Bool). t ⇒ relationOf n b p q) (ok .clear p q hp h (omega arith))) (lt-or-ge q n))
+
+-- ---- the checks of a preorder
+
+zero-not-one : _≡_ {A = ℕ} 0 1 → ⊥
+zero-not-one z = omega arith
+
+module _ (n : ℕ) (g : List ℕ) where
+  pub check-grid : isMatrix n g ≡ false → Refused Grid ≡ checkPreorder n g
+  unfolding checkPreorder
+  check-grid e = rw e
+
+  pub check-reflexive : isMatrix n g ≡ true → reflexiveBelow n (relationOf n g) ≡ false → Refused NotReflexive ≡ checkPreorder n g
+  unfolding checkPreorder
+  check-reflexive e f = rw (e, f)
+
+  pub check-transitive : isMatrix n g ≡ true → reflexiveBelow n (relationOf n g) ≡ true → transitiveBelow n (relationOf n g) ≡ false → Refused NotTransitive ≡ checkPreorder n g
+  unfolding checkPreorder
+  check-transitive e f h = rw (e, f, h)
+
+  pub check-passes : isMatrix n g ≡ true → reflexiveBelow n (relationOf n g) ≡ true → transitiveBelow n (relationOf n g) ≡ true → Preorder ≡ checkPreorder n g
+  unfolding checkPreorder
+  check-passes e f h = rw (e, f, h)
+
+  -- what a caller has from an answer that refuses nothing
+  passed : checkPreorder n g ≡ Preorder → (isMatrix n g ≡ true) × (reflexiveBelow n (relationOf n g) ≡ true) × (transitiveBelow n (relationOf n g) ≡ true)
+  unfolding checkPreorder
+  passed e = go (isMatrix n g) (reflexiveBelow n (relationOf n g)) (transitiveBelow n (relationOf n g)) e
+    where
+      go : (a b c : Bool) → cond a (cond b (cond c Preorder (Refused NotTransitive)) (Refused NotReflexive)) (Refused Grid) ≡ Preorder → (a ≡ true) × (b ≡ true) × (c ≡ true)
+      go true true true p = (refl, refl, refl)
+      go true true false p = let z : _≡_ {A = ℕ} 0 1 = cc in absurd (zero-not-one z)
+      go true false c p = let z : _≡_ {A = ℕ} 0 1 = cc in absurd (zero-not-one z)
+      go false b c p = let z : _≡_ {A = ℕ} 0 1 = cc in absurd (zero-not-one z)
+
+  pub checked-matrix : checkPreorder n g ≡ Preorder → Matrix n g
+  checked-matrix e = matrix-test n g (passed e .0)
+
+  pub checked-reflexive : checkPreorder n g ≡ Preorder → (L : Lts) → L .states ≡ n → T (reflexive L (relationOf n g))
+  unfolding reflexive allStates reflexiveBelow
+  checked-reflexive e L s = true-T _ (ap (λ (k : ℕ). allBelow k (λ p. relationOf n g p p)) s ∙ passed e .1)
+
+  pub checked-transitive : checkPreorder n g ≡ Preorder → (L : Lts) → L .states ≡ n → T (transitive L (relationOf n g))
+  unfolding transitive allStates transitiveBelow transitiveAt transitivePair
+  checked-transitive e L s = true-T _ (ap (λ (k : ℕ). allBelow k (λ p. allBelow k (λ q. allBelow k (λ r. relationOf n g p q && relationOf n g q r ⇒ relationOf n g p r)))) s ∙ passed e .2)

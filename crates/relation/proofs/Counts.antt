@@ -1,0 +1,69 @@
+-- Laws of sums and counts: the ones of a word are its bits, and the ones of a matrix's words its pairs. Assumes nothing.
+use mathlib.Core.Path.{_≡_, refl, sym, ap, ap₂, _∙_}
+use mathlib.Core.Bool.{Bool, true, false, not}
+use mathlib.Core.List.{List}
+use mathlib.Core.Logic.{⊎-elim}
+use Prim.Native.Nat.{ℕ, zero, suc, _+_, _-_, _*_, _/_, _^_, _<_}
+use native.Mathlib.Nat.{pow-suc, add-zero, eq-or-lt-of-le}
+use native.Mathlib.Omega.{arith}
+use lib.Count.{ones, ones-step, under, trailingZeros, trailing-le}
+use lib.ListN.{getD}
+use Rattle.relation.specs.Matrix.{bit, digit, relationOf, rowWords, Matrix, pairCount}
+use Rattle.lts.specs.Bounded.{sumBelow, countBelow, lowest}
+use Rattle.relation.proofs.Bits.{bit-suc, digit-bit, word-ext, word-zero}
+use Rattle.relation.proofs.Matrices.{inMatrix-at}
+use Rattle.relation.proofs.Bounded.{lowestStep, lowest-at, lowest-before, lowest-cong, sum-add, sum-cong, sum-cons, sum-mul, sum-zero}
+
+-- ---- the ones of a word
+
+pub ones-count : (k : ℕ) {x : ℕ} → x < 2 ^ k → ones x ≡ countBelow k (bit x)
+unfolding sumBelow countBelow ones
+ones-count zero {x} h = let e : x ≡ 0 = omega (arith, h) in ap ones e
+ones-count (suc k) {x} h =
+    let half : x / 2 < 2 ^ k = omega (arith, rw (pow-suc 2 k) at h) in
+    ones-step x
+    ∙ ap₂ (λ (a b : ℕ). a + b) (sym (digit-bit x)) (ones-count k half ∙ sum-cong k _ _ (λ i l. ap digit (sym (bit-suc x i))))
+    ∙ sym (sum-cons k (λ i. digit (bit x i)))
+
+-- ---- the bits of a matrix's words, word by word, and its pairs
+
+pub bits-pairs : (n : ℕ) (g : List ℕ) → Matrix n g → sumBelow (n * rowWords n) (λ j. countBelow 64 (bit (getD g j 0))) ≡ pairCount n (relationOf n g)
+unfolding countBelow pairCount
+bits-pairs n g ok =
+    sum-mul n w (λ j. countBelow 64 (bit (getD g j 0)))
+    ∙ sum-cong n _ _ (λ p hp.
+    sum-cong w _ _ (λ c hc. sum-cong 64 _ _ (λ i l. ap digit (sym (inMatrix-at w g p c i l))))
+    ∙ sym (sum-mul w 64 (λ q. digit (relationOf n g p q)))
+    ∙ ap (λ (k : ℕ). countBelow k (relationOf n g p)) room
+    ∙ sum-add n (w * 64 - n) (λ q. digit (relationOf n g p q))
+    ∙ ap (λ (x : ℕ). countBelow n (relationOf n g p) + x) (sum-zero (w * 64 - n) _ (λ i h. ap digit (ok .clear p (n + i) hp (omega arith) (omega (arith, h)))))
+    ∙ add-zero (countBelow n (relationOf n g p)))
+  where
+    w : ℕ
+    w = rowWords n
+
+    room : w * 64 ≡ n + (w * 64 - n)
+    room = omega arith
+
+-- ---- the trailing zeros of a word
+
+pub trailing-lowest : (k x : ℕ) → trailingZeros k x ≡ lowest k (bit x)
+unfolding trailingZeros lowest
+trailing-lowest zero x = refl
+trailing-lowest (suc k) x = ap₂ under (sym (digit-bit x)) (trailing-lowest k (x / 2) ∙ lowest-cong k _ _ (λ i. sym (bit-suc x i))) ∙ both (bit x 0) _
+  where
+    both : (b : Bool) (m : ℕ) → under (digit b) m ≡ lowestStep b m
+    both true m = refl
+    both false m = refl
+
+-- a word that is not 0 has a lowest one: there its bit is set, and no bit below it is
+pub trailing-lt : (k x : ℕ) → x < 2 ^ k → (x ≡ 0 → ⊥) → trailingZeros k x < k
+trailing-lt k x h ne =
+    ⊎-elim (λ (e : trailingZeros k x ≡ k). absurd (ne (word-ext k (λ i. false) h (λ i l.
+    lowest-before k (bit x) i (omega (arith, trailing-lowest k x))) ∙ word-zero k))) (λ l. l) (eq-or-lt-of-le (trailing-le k x))
+
+pub trailing-at : (k x : ℕ) → trailingZeros k x < k → bit x (trailingZeros k x) ≡ true
+trailing-at k x h = rw (trailing-lowest k x) (lowest-at k (bit x) (omega (arith, trailing-lowest k x)))
+
+pub trailing-before : (k x i : ℕ) → i < trailingZeros k x → bit x i ≡ false
+trailing-before k x i h = lowest-before k (bit x) i (omega (arith, trailing-lowest k x))

@@ -1,0 +1,197 @@
+-- Laws of lists given by a function, and of rows of words. Assumes nothing.
+use mathlib.Core.Path.{_≡_, refl, sym, ap, ap₂, _∙_}
+use mathlib.Core.Bool.{Bool, true, false, not, _&&_, _||_, xor}
+use mathlib.Core.Logic.{_⊎_, inl, inr, ⊎-elim}
+use mathlib.Core.List.{List, _++_}
+use Prim.Native.Nat.{ℕ, _+_, _-_, _*_, _/_, _%_, _^_, _≤_, _<_}
+use native.Mathlib.Nat.{div-add-mod', mod-lt, eq-or-lt-of-le}
+use native.Mathlib.Omega.{arith}
+use lib.Bits.{bitAnd, bitOr, bitXor, and-lt, or-lt, xor-lt, and-le-l}
+use lib.Arith.{digits-div, digits-mod}
+use lib.ListN.{length, List·getD-append, getD, set, drop, length-set}
+use lib.Seq.{getD-drop, getD-append-add, getD-set-same, getD-set-other}
+use lib.Dec.{eqb}
+use lib.Pow.{pow-pos}
+use borrow.Author.Tests.{eq-eqb, ne-eqb}
+use Rattle.lts.specs.Bounded.{anyBelow}
+use Rattle.relation.specs.Matrix.{bit, inRow, wordAt, rowOf}
+use Rattle.relation.proofs.Bits.{word-ext, wordOf-lt, bit-wordOf, bit-and, bit-or, bit-xor, bit-not, bit-pow, one-shl}
+use Rattle.relation.proofs.Bounded.{any-more, listBelow-cong, getD-listBelow, length-listBelow, fill-more, getD-fill, list-ext, lt-or-ge}
+
+-- ---- a row of words
+
+pub inRow-at : (row : List ℕ) (c i : ℕ) → i < 64 → inRow row (c * 64 + i) ≡ bit (getD row c 0) i
+unfolding inRow
+inRow-at row c i h = rw (digits-div c h, digits-mod c h)
+
+-- a word whose bits are those of S at c is word c of S
+pub word-at : (S : ℕ → Bool) (c : ℕ) {x : ℕ} → x < 2 ^ 64 → ((i : ℕ) → i < 64 → bit x i ≡ S (c * 64 + i)) → x ≡ wordAt S c
+unfolding wordAt
+word-at S c h e = word-ext 64 (λ i. S (c * 64 + i)) h e
+
+pub bit-wordAt : (S : ℕ → Bool) (c i : ℕ) → i < 64 → bit (wordAt S c) i ≡ S (c * 64 + i)
+unfolding wordAt
+bit-wordAt S c i h = bit-wordOf 64 (λ i. S (c * 64 + i)) i h
+
+pub wordAt-lt : (S : ℕ → Bool) (c : ℕ) → wordAt S c < 2 ^ 64
+unfolding wordAt
+wordAt-lt S c = wordOf-lt 64 (λ i. S (c * 64 + i))
+
+-- the members of the words of a set, and of a row with its first words written
+pub inRow-of : (k : ℕ) (S : ℕ → Bool) (q : ℕ) → q < k * 64 → inRow (rowOf k S) q ≡ S q
+unfolding inRow
+inRow-of k S q h =
+    ap (λ (x : ℕ). bit x (q % 64)) (getD-listBelow k (wordAt S) (q / 64) (omega arith)) ∙ bit-wordAt S (q / 64) (q % 64) (mod-lt q (omega arith)) ∙ ap S (div-add-mod' q 64)
+
+pub inRow-written : (k : ℕ) (S : ℕ → Bool) (rest : List ℕ) (q : ℕ) → q < k * 64 → inRow (rowOf k S ++ rest) q ≡ S q
+unfolding inRow
+inRow-written k S rest q h =
+    ap (λ (x : ℕ). bit x (q % 64)) (List·getD-append (rowOf k S) rest 0 (q / 64) (omega (arith, length-listBelow k (wordAt S)))) ∙ inRow-of k S q h
+
+pub inRow-rest : (k : ℕ) (S : ℕ → Bool) (d : List ℕ) (q : ℕ) → k * 64 ≤ q → k ≤ length d → inRow (rowOf k S ++ drop k d) q ≡ inRow d q
+unfolding inRow
+inRow-rest k S d q h l =
+    let split : q / 64 ≡ length (rowOf k S) + (q / 64 - k) = omega (arith, length-listBelow k (wordAt S)) in
+    let back : k + (q / 64 - k) ≡ q / 64 = omega arith in
+    ap (λ (x : ℕ). bit x (q % 64))
+    (ap (λ (j : ℕ). getD (rowOf k S ++ drop k d) j 0) split ∙ getD-append-add (rowOf k S) (drop k d) (q / 64 - k) 0 ∙ getD-drop k d (q / 64 - k) 0 ∙ ap (λ (j : ℕ). getD d j 0) back)
+
+-- words of the same members are the same
+pub rowOf-cong : (k : ℕ) (A B : ℕ → Bool) → ((q : ℕ) → q < k * 64 → A q ≡ B q) → rowOf k A ≡ rowOf k B
+rowOf-cong k A B e = listBelow-cong k _ _ (λ c h. word-at B c (wordAt-lt A c) (λ i l. bit-wordAt A c i l ∙ e (c * 64 + i) (omega arith)))
+
+pub row-ext : (k : ℕ) (S : ℕ → Bool) (row : List ℕ) → length row ≡ k → ((j : ℕ) → getD row j 0 < 2 ^ 64) → ((q : ℕ) → q < k * 64 → inRow row q ≡ S q) → row ≡ rowOf k S
+row-ext k S row long words same =
+    list-ext k (wordAt S) row long (λ c h. word-at S c (words c) (λ i l. sym (inRow-at row c i l) ∙ same (c * 64 + i) (omega arith)))
+
+-- ---- a loop that fills a row word by word: after c turns the row is `rowOf c S ++ drop c d`
+
+module _ (S : ℕ → Bool) (d row : List ℕ) (c : ℕ) (now : row ≡ rowOf c S ++ drop c d) where
+  pub row-unread : getD row c 0 ≡ getD d c 0
+  row-unread = ap (λ (l : List ℕ). getD l c 0) now ∙ getD-fill c (wordAt S) d
+
+  pub row-store : {x : ℕ} → c < length d → x ≡ wordAt S c → set row c x ≡ rowOf (c + 1) S ++ drop (c + 1) d
+  row-store {x} l e = ap (λ (l : List ℕ). set l c x) now ∙ fill-more c (wordAt S) d l e
+
+  pub row-more : {x : ℕ} → c < length d → x < 2 ^ 64 → ((i : ℕ) → i < 64 → bit x i ≡ S (c * 64 + i)) → set row c x ≡ rowOf (c + 1) S ++ drop (c + 1) d
+  row-more l h e = row-store l (word-at S c h e)
+
+  pub row-done : {k : ℕ} → c ≡ k → row ≡ rowOf k S ++ drop k d
+  row-done e = now ∙ ap (λ (m : ℕ). rowOf m S ++ drop m d) e
+
+-- a row that has no state in its first c words, nor in the t lowest bits of word c
+pub row-before : (row : List ℕ) (c t : ℕ) → t ≤ 64 → ((q : ℕ) → q < c * 64 → inRow row q ≡ false) → ((i : ℕ) → i < t → bit (getD row c 0) i ≡ false)
+    → (q : ℕ) → q < c * 64 + t → inRow row q ≡ false
+row-before row c t small below here q h =
+    ⊎-elim (λ (l : q < c * 64). below q l)
+    (λ (l : c * 64 ≤ q).
+    let split : q ≡ c * 64 + (q - c * 64) = omega arith in
+    ap (inRow row) split ∙ inRow-at row c (q - c * 64) (omega arith) ∙ here (q - c * 64) (omega arith))
+    (lt-or-ge q (c * 64))
+
+-- ---- an operation on words that goes bit by bit, and what it makes of two rows
+
+pub record Bitwise (op : ℕ → ℕ → ℕ) (β : Bool → Bool → Bool) : Type 0 where
+  pub small : (x y : ℕ) → x < 2 ^ 64 → y < 2 ^ 64 → op x y < 2 ^ 64
+  pub bits : (x y i : ℕ) → x < 2 ^ 64 → y < 2 ^ 64 → i < 64 → bit (op x y) i ≡ β (bit x i) (bit y i)
+
+pub and-bitwise : Bitwise bitAnd _&&_
+and-bitwise = record { small = λ x y hx hy. and-lt 64 x y hx hy; bits = λ x y i hx hy l. bit-and x y i }
+
+pub or-bitwise : Bitwise bitOr _||_
+or-bitwise = record { small = λ x y hx hy. or-lt 64 x y hx hy; bits = λ x y i hx hy l. bit-or x y i }
+
+pub xor-bitwise : Bitwise bitXor xor
+xor-bitwise = record { small = λ x y hx hy. xor-lt 64 x y hx hy; bits = λ x y i hx hy l. bit-xor x y i }
+
+-- the first operand
+pub left-bitwise : Bitwise (λ x y. x) (λ a b. a)
+left-bitwise = record { small = λ x y hx hy. hx; bits = λ x y i hx hy l. refl }
+
+pub minus-bitwise : Bitwise (λ x y. bitAnd x ((2 ^ 64 - 1) - y)) (λ a b. a && not b)
+minus-bitwise = record {
+  small = λ x y hx hy. omega (arith, and-le-l x ((2 ^ 64 - 1) - y));
+  bits = λ x y i hx hy l. bit-and x ((2 ^ 64 - 1) - y) i ∙ ap (λ (b : Bool). bit x i && b) (bit-not 64 y i l hy);
+}
+
+pub zip-more : (op : ℕ → ℕ → ℕ) (β : Bool → Bool → Bool) → Bitwise op β → (d mask row : List ℕ) (c : ℕ)
+    → row ≡ rowOf c (λ q. β (inRow d q) (inRow mask q)) ++ drop c d → c < length d → getD row c 0 < 2 ^ 64 → getD mask c 0 < 2 ^ 64
+    → set row c (op (getD row c 0) (getD mask c 0)) ≡ rowOf (c + 1) (λ q. β (inRow d q) (inRow mask q)) ++ drop (c + 1) d
+zip-more op β ok d mask row c now l hr hm =
+    row-more _ d row c now l (ok .small _ _ hr hm) (λ i h.
+    ok .bits _ _ i hr hm h
+    ∙ ap₂ β (ap (λ (x : ℕ). bit x i) (row-unread _ d row c now) ∙ sym (inRow-at d c i h)) (sym (inRow-at mask c i h)))
+
+-- ---- one state more in a row: `row[q / 64] | 1 << q % 64`
+
+pub row-insert : (row : List ℕ) (q : ℕ) → q / 64 < length row → ((j : ℕ) → getD row j 0 < 2 ^ 64)
+    → set row (q / 64) (bitOr (getD row (q / 64) 0) (1 * 2 ^ (q % 64) % 2 ^ 64)) ≡ rowOf (length row) (λ x. eqb x q || inRow row x)
+row-insert row q h words =
+    list-ext (length row) (wordAt S) (set row (q / 64) v) (length-set row (q / 64) v) (λ j l.
+    ⊎-elim (λ (e : j ≡ q / 64). ap (λ (k : ℕ). getD (set row (q / 64) v) k 0) e ∙ getD-set-same row (q / 64) v 0 h ∙ here ∙ ap (wordAt S) (sym e))
+    (λ (ne : j ≡ q / 64 → ⊥). getD-set-other row (q / 64) j v 0 ne ∙ word-at S j (words j) (λ i k.
+    sym (inRow-at row j i k) ∙ sym (ap (λ (b : Bool). b || inRow row (j * 64 + i)) (ne-eqb (j * 64 + i) q (λ e. ne (omega arith)))))) (same j (q / 64)))
+  where
+    S : ℕ → Bool
+    S x = eqb x q || inRow row x
+
+    v : ℕ
+    v = bitOr (getD row (q / 64) 0) (1 * 2 ^ (q % 64) % 2 ^ 64)
+
+    low : q % 64 < 64
+    low = mod-lt q (omega arith)
+
+    same : (a b : ℕ) → (a ≡ b) ⊎ (a ≡ b → ⊥)
+    same a b = ⊎-elim (λ (l : a < b). inr (λ e. omega arith)) (λ (l : b ≤ a). ⊎-elim (λ e. inl (sym e)) (λ (m : b < a). inr (λ e. omega arith)) (eq-or-lt-of-le l)) (lt-or-ge a b)
+
+    swap : (a b : Bool) → a || b ≡ b || a
+    swap true true = refl
+    swap true false = refl
+    swap false true = refl
+    swap false false = refl
+
+    place : (i : ℕ) → i < 64 → eqb i (q % 64) ≡ eqb (q / 64 * 64 + i) q
+    place i l = ⊎-elim (λ (e : i ≡ q % 64). eq-eqb i (q % 64) e ∙ sym (eq-eqb (q / 64 * 64 + i) q (omega arith)))
+        (λ ne. ne-eqb i (q % 64) ne ∙ sym (ne-eqb (q / 64 * 64 + i) q (λ e. ne (omega arith)))) (same i (q % 64))
+
+    here : v ≡ wordAt S (q / 64)
+    here = word-at S (q / 64) (or-lt 64 _ _ (words (q / 64)) (mod-lt (1 * 2 ^ (q % 64)) (pow-pos 64))) (λ i l.
+        bit-or (getD row (q / 64) 0) (1 * 2 ^ (q % 64) % 2 ^ 64) i
+        ∙ ap₂ _||_ (sym (inRow-at row (q / 64) i l)) (ap (λ (x : ℕ). bit x i) (one-shl (q % 64) low) ∙ bit-pow (q % 64) i ∙ place i l)
+        ∙ swap (inRow row (q / 64 * 64 + i)) (eqb (q / 64 * 64 + i) q))
+
+or-false : (b : Bool) → b || false ≡ b
+or-false true = refl
+or-false false = refl
+
+-- ---- a set that is gathered turn by turn: after j turns the row has what it had, and each q with H q i for an i below j
+
+module _ (d : List ℕ) (H : ℕ → ℕ → Bool) where
+  abbrev pub gathered : ℕ → List ℕ
+  gathered j = rowOf (length d) (λ q. inRow d q || anyBelow j (H q))
+
+  pub gather-none : ((j : ℕ) → getD d j 0 < 2 ^ 64) → d ≡ gathered 0
+  unfolding anyBelow
+  gather-none words = row-ext (length d) _ d refl words (λ q h. sym (or-false (inRow d q)))
+
+  -- turn j puts s in, and no other state
+  pub gather-in : (j s : ℕ) {row : List ℕ} → row ≡ gathered j → ((q : ℕ) → H q j ≡ eqb q s) → rowOf (length row) (λ x. eqb x s || inRow row x) ≡ gathered (j + 1)
+  gather-in j s {row} now this =
+      ap (λ (k : ℕ). rowOf k (λ x. eqb x s || inRow row x)) (ap length now ∙ length-listBelow (length d) (wordAt (λ q. inRow d q || anyBelow j (H q))))
+      ∙ rowOf-cong (length d) _ _ (λ q h.
+      ap (λ (b : Bool). eqb q s || b) (ap (λ (l : List ℕ). inRow l q) now ∙ inRow-of (length d) _ q h)
+      ∙ turn (eqb q s) (inRow d q) (anyBelow j (H q))
+      ∙ ap (λ (b : Bool). inRow d q || b) (ap (λ (b : Bool). anyBelow j (H q) || b) (sym (this q)) ∙ sym (any-more (H q) j)))
+    where
+      turn : (a b c : Bool) → a || (b || c) ≡ b || (c || a)
+      turn true true c = refl
+      turn true false true = refl
+      turn true false false = refl
+      turn false true c = refl
+      turn false false c = sym (or-false c)
+
+  -- turn j puts nothing in
+  pub gather-out : (j : ℕ) {row : List ℕ} → row ≡ gathered j → ((q : ℕ) → H q j ≡ false) → row ≡ gathered (j + 1)
+  gather-out j now this =
+      now ∙ rowOf-cong (length d) _ _ (λ q h.
+      ap (λ (b : Bool). inRow d q || b) (sym (or-false (anyBelow j (H q))) ∙ ap (λ (b : Bool). anyBelow j (H q) || b) (sym (this q)) ∙ sym (any-more (H q) j)))

@@ -1,0 +1,63 @@
+use mathlib.Core.Path.{_≡_, sym, _∙_}
+use mathlib.Core.Bool.{true}
+use Prim.Native.Nat.{ℕ, _≤_, _<_, _-_}
+use native.Mathlib.Omega.{arith}
+use borrow.Author.Count.{below-none, below-more}
+use borrow.Author.Tests.{not-true, not-false}
+use denote.Ref.{now}
+use Rattle.relation.specs.Matrix.{relationOf}
+use Rattle.relation.proofs.Bounded.{all-yes, all-not}
+use Rattle.simulation.specs.Simulation.{answeredAt}
+use Rattle.simulation.proofs.Answers.{simulation-table}
+use borrow.Author.Needs.{needs}
+use Rattle.simulation.proofs.simulates.Statement.{statement}
+use Rattle.simulation.proofs.simulates.Tie as tie
+
+abbrev Inv-loop : tie.InvT-loop
+Inv-loop n m k sources actions targets claim i₀ i = (i ≤ k) × ((j : ℕ) → j < i → answeredAt n m k sources actions targets (relationOf n claim) j ≡ true)
+
+abbrev μ-loop : tie.MeasureT-loop
+μ-loop n m k sources actions targets claim i₀ i = k - i
+
+loop-holds : tie.Need-loop-holds Inv-loop μ-loop
+loop-holds c = (search needs, below-none _)
+
+answered-at-requires : tie.Need-answered-at-requires Inv-loop μ-loop
+answered-at-requires c κs = search needs
+
+returns : tie.Need-returns Inv-loop μ-loop
+returns c =
+    let start = c .before .before .before .before .before in
+    let a = start .args in
+    all-not _ _ (c .before .before .before .loop .i) (c .before .before .loop-test .taken) (sym (c .before .answered-at .ensures) ∙ not-true _ (c .if1 .taken))
+    ∙ simulation-table (now (a .sources)) (now (a .actions)) (now (a .targets)) (a .n) (a .m) (a .k) (start .pre .0) _
+
+add-i : tie.Need-add-i Inv-loop μ-loop
+add-i c = search needs
+
+loop-less : tie.Need-loop-less Inv-loop μ-loop
+loop-less c = search needs
+
+loop-again : tie.Need-loop-again Inv-loop μ-loop
+loop-again c = (search needs, below-more _ _ (c .before .before .before .loop .inv .1) (sym (c .before .answered-at .ensures) ∙ not-false _ (c .if1 .left)))
+
+returns-2 : tie.Need-returns-2 Inv-loop μ-loop
+returns-2 c =
+    let start = c .before .before .before in
+    let a = start .args in
+    all-yes _ _ (λ i h. c .before .loop .inv .1 i (omega arith))
+    ∙ simulation-table (now (a .sources)) (now (a .actions)) (now (a .targets)) (a .n) (a .m) (a .k) (start .pre .0) _
+
+pub simulates-spec : {M : Type 1} → statement M
+simulates-spec =
+    tie.close
+    (tie.spec
+    Inv-loop
+    μ-loop
+    loop-holds
+    answered-at-requires
+    returns
+    add-i
+    loop-less
+    loop-again
+    returns-2)
