@@ -1,0 +1,85 @@
+//! Grids: relations carried as 64-bit words, and the calls on them.
+
+use crate::lts::Lts;
+use crate::refusal::Refusal;
+use crate::relation::{Preorder, Relation};
+use crate::sheet;
+
+/// w, the words of one row for `n` states.
+pub fn words_per_row(n: usize) -> usize {
+    n.div_ceil(64)
+}
+
+/// The words of a whole grid for `n` states.
+pub fn length(n: usize) -> usize {
+    n * words_per_row(n)
+}
+
+/// Reads a grid; refused if its length is wrong or a bit at q ≥ n is set.
+pub fn read(words: &[u64], n: usize) -> Result<Relation, Refusal> {
+    if words.len() != length(n) {
+        return Err(Refusal::GRID);
+    }
+    let w = words_per_row(n);
+    let bit = |p: usize, q: usize| words[p * w + q / 64] >> (q % 64) & 1 == 1;
+    for p in 0..n {
+        if (n..64 * w).any(|q| bit(p, q)) {
+            return Err(Refusal::GRID);
+        }
+    }
+    Ok(Relation::from_fn(n, bit))
+}
+
+/// Reads a start: a grid that must also be reflexive and transitive.
+pub fn read_start(words: &[u64], n: usize) -> Result<Preorder, Refusal> {
+    Preorder::new(read(words, n)?)
+}
+
+/// The grid of a relation.
+pub fn write(relation: &Relation) -> Vec<u64> {
+    let n = relation.states();
+    let w = words_per_row(n);
+    let mut words = vec![0; n * w];
+    for (p, q) in relation.pairs() {
+        words[p * w + q / 64] |= 1 << (q % 64);
+    }
+    words
+}
+
+/// The end start of a flow: (p, q) unless p has the end mark and q has not.
+pub fn end_start_of(lts: &Lts) -> Preorder {
+    let relation = Relation::from_fn(lts.states(), |p, q| {
+        !lts.has_end_mark(p) || lts.has_end_mark(q)
+    });
+    Preorder::new(relation).expect("the end start is a preorder")
+}
+
+/// Is the relation a simulation over the flow?
+pub fn is_simulation(lts: &Lts, relation: &Relation) -> bool {
+    relation.pairs().all(|(p, q)| {
+        lts.moves_of(p).iter().all(|step| {
+            lts.replies(q, step.action)
+                .iter()
+                .any(|reply| relation.contains(step.target, reply.target))
+        })
+    })
+}
+
+/// End start: writes the end start of the sheet's flow into the grid. A
+/// refusal leaves the grid as it is.
+pub fn end_start(sheet: &[u8], grid: &mut [u64]) -> Result<(), u8> {
+    let lts = sheet::read(sheet)?;
+    if grid.len() != length(lts.states()) {
+        return Err(Refusal::BUFFER.0);
+    }
+    grid.copy_from_slice(&write(end_start_of(&lts).relation()));
+    Ok(())
+}
+
+/// Test simulation: is the claimed grid a simulation inside the start?
+pub fn test_simulation(sheet: &[u8], start: &[u64], claim: &[u64]) -> Result<bool, u8> {
+    let lts = sheet::read(sheet)?;
+    let start = read_start(start, lts.states())?;
+    let claim = read(claim, lts.states())?;
+    Ok(is_simulation(&lts, &claim) && claim.is_inside(start.relation()))
+}

@@ -1,0 +1,40 @@
+//! Independent reference for the flow comparer.
+//!
+//! Written only from document 01 (the scope: sheets, grids, turns, plans) and
+//! from document 004 (the base algorithm). It aims at being plainly right
+//! rather than fast. Names: a page is a [`lts::State`], a move is a
+//! [`lts::Transition`], a turn list is a schedule, the name of a block is its
+//! representative, and a plan is a [`plans::Strategy`] made of [`plans::Entry`].
+//!
+//! The calls of document 01:
+//!
+//! | call | function |
+//! |---|---|
+//! | normalise | [`sheet::normalise`] |
+//! | end start | [`grid::end_start`] |
+//! | test simulation | [`grid::test_simulation`] |
+//! | coarsest | [`turns::coarsest`] |
+//! | check plan | [`plans::check_plan`] |
+//! | write plan | [`plans::write_plan`] |
+//! | hand play | [`game::hand_play`] |
+//! | compare | [`compare::compare`] |
+//! | the program flowcheck | [`report::flowcheck`] |
+
+pub mod base;
+pub mod compare;
+pub mod fixpoint;
+pub mod game;
+pub mod grid;
+pub mod lts;
+pub mod plans;
+pub mod prng;
+pub mod random;
+pub mod refusal;
+pub mod relation;
+pub mod report;
+pub mod sheet;
+pub mod state_set;
+pub mod turns;
+
+#[cfg(test)]
+mod tests;

@@ -1,0 +1,162 @@
+//! Random flows, preorders, schedules and sheets for tests and cases.
+
+use crate::lts::{Lts, Transition};
+use crate::prng::Prng;
+use crate::relation::{Preorder, Relation};
+use crate::sheet;
+
+/// A flow with about `k` random transitions and end marks in `marks` percent
+/// of the states.
+pub fn lts(rng: &mut Prng, n: usize, m: usize, k: usize, marks: usize) -> Lts {
+    let mut transitions = Vec::new();
+    if m > 0 {
+        for _ in 0..k {
+            let (source, action, target) = (rng.below(n), rng.between(1, m), rng.below(n));
+            transitions.push(Transition {
+                source,
+                action,
+                target,
+            });
+        }
+    }
+    let end_marks = (0..n).map(|_| rng.chance(marks)).collect();
+    Lts::new(m, end_marks, transitions)
+}
+
+/// A flow with exactly `k` different random transitions.
+pub fn lts_exact(rng: &mut Prng, n: usize, m: usize, k: usize, marks: usize) -> Lts {
+    let mut transitions: Vec<Transition> = Vec::new();
+    while transitions.len() < k {
+        let (source, action, target) = (rng.below(n), rng.between(1, m), rng.below(n));
+        let transition = Transition {
+            source,
+            action,
+            target,
+        };
+        if !transitions.contains(&transition) {
+            transitions.push(transition);
+        }
+    }
+    let end_marks = (0..n).map(|_| rng.chance(marks)).collect();
+    Lts::new(m, end_marks, transitions)
+}
+
+/// A flow that mostly goes forward from a page to a near later one, so that
+/// pairs fall in many different rounds.
+pub fn forward(rng: &mut Prng, n: usize, m: usize, marks: usize) -> Lts {
+    let mut transitions = Vec::new();
+    for source in 0..n {
+        for _ in 0..rng.between(0, 3) {
+            let target = if rng.chance(10) {
+                rng.below(n)
+            } else {
+                source + rng.between(1, 3)
+            };
+            if target < n {
+                transitions.push(Transition {
+                    source,
+                    action: rng.between(1, m),
+                    target,
+                });
+            }
+        }
+    }
+    let end_marks = (0..n).map(|_| rng.chance(marks)).collect();
+    Lts::new(m, end_marks, transitions)
+}
+
+/// A small flow of one of several shapes.
+pub fn small(rng: &mut Prng, most_states: usize, most_actions: usize) -> Lts {
+    let n = rng.between(1, most_states);
+    let m = rng.between(0, most_actions);
+    let marks = [0, 0, 10, 30, 50][rng.below(5)];
+    if m > 0 && rng.chance(30) {
+        return forward(rng, n, m, marks);
+    }
+    let most = n * rng.between(1, 4);
+    let k = rng.between(0, most);
+    lts(rng, n, m, k, marks)
+}
+
+/// A preorder of one of several shapes.
+pub fn preorder(rng: &mut Prng, n: usize) -> Preorder {
+    let relation = match rng.below(6) {
+        0 => Relation::identity(n),
+        1 => Relation::full(n),
+        2 => {
+            // Every state has a level; lower levels go to higher ones.
+            let levels = rng.between(1, 4);
+            let level: Vec<usize> = (0..n).map(|_| rng.below(levels)).collect();
+            Relation::from_fn(n, |p, q| level[p] <= level[q])
+        }
+        3 => {
+            // A few classes without pairs between them.
+            let classes = rng.between(1, 3);
+            let class: Vec<usize> = (0..n).map(|_| rng.below(classes)).collect();
+            Relation::from_fn(n, |p, q| class[p] == class[q])
+        }
+        4 => {
+            // Inclusion of random feature sets.
+            let features: Vec<usize> = (0..n).map(|_| rng.below(8)).collect();
+            Relation::from_fn(n, |p, q| features[p] & features[q] == features[p])
+        }
+        _ => {
+            let pairs = rng.below(2 * n + 1);
+            let mut relation = Relation::empty(n);
+            for _ in 0..pairs {
+                relation.insert(rng.below(n), rng.below(n));
+            }
+            relation
+        }
+    };
+    Preorder::closure(&relation)
+}
+
+/// A schedule of any values.
+pub fn schedule(rng: &mut Prng, most: usize) -> Vec<u16> {
+    let length = rng.below(most + 1);
+    match rng.below(4) {
+        0 => vec![u16::MAX; length],
+        1 => (0..length).map(|_| rng.below(4) as u16).collect(),
+        2 => (0..length).map(|i| i as u16).collect(),
+        _ => (0..length).map(|_| rng.bits() as u16).collect(),
+    }
+}
+
+/// A readable sheet of the flow with its records in a random order and its
+/// chains linked in a random order.
+pub fn shuffled_sheet(rng: &mut Prng, lts: &Lts) -> Vec<u8> {
+    let k = lts.transitions().len();
+    let mut numbers: Vec<usize> = (1..=k).collect();
+    rng.shuffle(&mut numbers);
+    let mut chains: Vec<Vec<usize>> = vec![Vec::new(); lts.states()];
+    let mut moves = vec![(0, 0); k];
+    for (transition, &number) in lts.transitions().iter().zip(&numbers) {
+        moves[number - 1] = (transition.action, transition.target);
+        chains[transition.source].push(number);
+    }
+    for chain in &mut chains {
+        rng.shuffle(chain);
+    }
+    let mut next = vec![0; k];
+    for chain in &chains {
+        for link in chain.windows(2) {
+            next[link[0] - 1] = link[1];
+        }
+    }
+    let mut bytes = Vec::with_capacity(sheet::length(lts.states(), k));
+    let number = |bytes: &mut Vec<u8>, value: usize| bytes.extend((value as u16).to_le_bytes());
+    for count in [lts.states(), lts.actions(), k] {
+        number(&mut bytes, count);
+    }
+    for (p, chain) in chains.iter().enumerate() {
+        bytes.extend([u8::from(lts.has_end_mark(p)), 0]);
+        number(&mut bytes, chain.first().copied().unwrap_or(0));
+    }
+    for (place, &(action, target)) in moves.iter().enumerate() {
+        bytes.extend([action as u8, 0]);
+        number(&mut bytes, target);
+        number(&mut bytes, next[place]);
+    }
+    bytes
+}

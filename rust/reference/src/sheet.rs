@@ -1,0 +1,213 @@
+//! Sheets: the bytes that carry a flow.
+
+use crate::lts::{Lts, Transition};
+use crate::refusal::Refusal;
+
+/// Bytes of the header.
+pub const HEADER: usize = 6;
+/// Bytes of a page record.
+pub const PAGE_RECORD: usize = 4;
+/// Bytes of a move record.
+pub const MOVE_RECORD: usize = 6;
+/// The largest n.
+pub const MOST_PAGES: usize = 256;
+/// The largest m.
+pub const MOST_ACTIONS: usize = 64;
+/// The largest k.
+pub const MOST_MOVES: usize = 1024;
+
+/// The length of a sheet with `n` pages and `k` move records.
+pub fn length(n: usize, k: usize) -> usize {
+    HEADER + PAGE_RECORD * n + MOVE_RECORD * k
+}
+
+/// The counts of a header.
+struct Header {
+    n: usize,
+    m: usize,
+    k: usize,
+}
+
+/// A page record, as it stands.
+struct PageRecord {
+    mark: u8,
+    spare: u8,
+    first: usize,
+}
+
+/// A move record, as it stands.
+struct MoveRecord {
+    action: usize,
+    spare: u8,
+    target: usize,
+    next: usize,
+}
+
+/// Reads a sheet; the number of the refusal if it is not readable.
+pub fn read(bytes: &[u8]) -> Result<Lts, u8> {
+    let header = read_header(bytes)?;
+    let pages = read_pages(bytes, &header)?;
+    let records = read_records(bytes, &header)?;
+    let chains = walk_chains(&pages, &records)?;
+    refuse_repeats(&chains, &records)?;
+    let end_marks = pages.iter().map(|page| page.mark == 1).collect();
+    let mut transitions = Vec::new();
+    for (source, chain) in chains.iter().enumerate() {
+        for &index in chain {
+            let record = &records[index - 1];
+            transitions.push(Transition {
+                source,
+                action: record.action,
+                target: record.target,
+            });
+        }
+    }
+    Ok(Lts::new(header.m, end_marks, transitions))
+}
+
+/// Writes the normal form of a flow.
+pub fn write(lts: &Lts) -> Vec<u8> {
+    let mut bytes = Vec::new();
+    for count in [lts.states(), lts.actions(), lts.transitions().len()] {
+        push_number(&mut bytes, count);
+    }
+    let mut index = 1;
+    for p in 0..lts.states() {
+        let moves = lts.moves_of(p).len();
+        bytes.extend([u8::from(lts.has_end_mark(p)), 0]);
+        push_number(&mut bytes, if moves > 0 { index } else { 0 });
+        index += moves;
+    }
+    let mut index = 1;
+    for p in 0..lts.states() {
+        let moves = lts.moves_of(p);
+        for (place, t) in moves.iter().enumerate() {
+            let last = place + 1 == moves.len();
+            bytes.extend([t.action as u8, 0]);
+            push_number(&mut bytes, t.target);
+            push_number(&mut bytes, if last { 0 } else { index + 1 });
+            index += 1;
+        }
+    }
+    bytes
+}
+
+/// Normalise: writes the normal form of the sheet into a buffer of the
+/// sheet's own length. A refusal leaves the buffer as it is.
+pub fn normalise(sheet: &[u8], out: &mut [u8]) -> Result<(), u8> {
+    let lts = read(sheet)?;
+    if out.len() != sheet.len() {
+        return Err(Refusal::BUFFER.0);
+    }
+    out.copy_from_slice(&write(&lts));
+    Ok(())
+}
+
+/// Adds a 16-bit number, low byte first.
+fn push_number(bytes: &mut Vec<u8>, number: usize) {
+    bytes.extend((number as u16).to_le_bytes());
+}
+
+/// The 16-bit number at a place.
+fn number_at(bytes: &[u8], at: usize) -> usize {
+    usize::from(bytes[at]) + 256 * usize::from(bytes[at + 1])
+}
+
+/// The header; also checks that the length is the one that its counts say.
+fn read_header(bytes: &[u8]) -> Result<Header, Refusal> {
+    if bytes.len() < HEADER {
+        return Err(Refusal::LENGTH);
+    }
+    let (n, m, k) = (
+        number_at(bytes, 0),
+        number_at(bytes, 2),
+        number_at(bytes, 4),
+    );
+    if !(1..=MOST_PAGES).contains(&n) || m > MOST_ACTIONS || k > MOST_MOVES {
+        return Err(Refusal::RANGE);
+    }
+    if bytes.len() != length(n, k) {
+        return Err(Refusal::LENGTH);
+    }
+    Ok(Header { n, m, k })
+}
+
+/// The page records; refused if one breaks a rule.
+fn read_pages(bytes: &[u8], header: &Header) -> Result<Vec<PageRecord>, Refusal> {
+    let mut pages = Vec::new();
+    for p in 0..header.n {
+        let at = HEADER + PAGE_RECORD * p;
+        let page = PageRecord {
+            mark: bytes[at],
+            spare: bytes[at + 1],
+            first: number_at(bytes, at + 2),
+        };
+        if page.mark > 1 || page.spare != 0 || page.first > header.k {
+            return Err(Refusal::PAGE_RECORD);
+        }
+        pages.push(page);
+    }
+    Ok(pages)
+}
+
+/// The move records; refused if one breaks a rule.
+fn read_records(bytes: &[u8], header: &Header) -> Result<Vec<MoveRecord>, Refusal> {
+    let mut records = Vec::new();
+    for i in 0..header.k {
+        let at = HEADER + PAGE_RECORD * header.n + MOVE_RECORD * i;
+        let record = MoveRecord {
+            action: usize::from(bytes[at]),
+            spare: bytes[at + 1],
+            target: number_at(bytes, at + 2),
+            next: number_at(bytes, at + 4),
+        };
+        let action_fits = 1 <= record.action && record.action <= header.m;
+        if !action_fits || record.spare != 0 || record.target >= header.n || record.next > header.k
+        {
+            return Err(Refusal::MOVE_RECORD);
+        }
+        records.push(record);
+    }
+    Ok(records)
+}
+
+/// The chain of each page, as record numbers. Refused if a record is reached
+/// a second time (by any chain) or if one is never reached.
+fn walk_chains(pages: &[PageRecord], records: &[MoveRecord]) -> Result<Vec<Vec<usize>>, Refusal> {
+    let mut reached = vec![false; records.len()];
+    let mut chains = Vec::new();
+    for page in pages {
+        let mut chain = Vec::new();
+        let mut index = page.first;
+        while index != 0 {
+            if reached[index - 1] {
+                return Err(Refusal::CHAIN);
+            }
+            reached[index - 1] = true;
+            chain.push(index);
+            index = records[index - 1].next;
+        }
+        chains.push(chain);
+    }
+    if reached.iter().all(|&r| r) {
+        Ok(chains)
+    } else {
+        Err(Refusal::CHAIN)
+    }
+}
+
+/// Refuses a chain that holds the same action and target twice.
+fn refuse_repeats(chains: &[Vec<usize>], records: &[MoveRecord]) -> Result<(), Refusal> {
+    for chain in chains {
+        let mut seen: Vec<(usize, usize)> = Vec::new();
+        for &index in chain {
+            let record = &records[index - 1];
+            let step = (record.action, record.target);
+            if seen.contains(&step) {
+                return Err(Refusal::TWICE);
+            }
+            seen.push(step);
+        }
+    }
+    Ok(())
+}

@@ -1,0 +1,5 @@
+//! Unit and property tests.
+
+mod document;
+mod properties;
+mod sheets;
