@@ -1,0 +1,5 @@
+pub mod Bits
+pub mod Rows
+pub mod Matrices
+pub mod Counts
+pub mod Checks

@@ -1,0 +1,185 @@
+-- Laws of lists given by a function, and of rows of words. Assumes nothing.
+use mathlib.Core.Path.{_≡_, refl, sym, ap, ap₂, _∙_, subst}
+use mathlib.Core.Bool.{Bool, true, false, not, _&&_, _||_}
+use mathlib.Core.Logic.{_⊎_, inl, inr, ⊎-elim}
+use mathlib.Core.List.{List, [], _∷_, _++_}
+use Prim.Native.Nat.{ℕ, zero, suc, _+_, _-_, _*_, _/_, _%_, _^_, _≤_, _<_, zero-le, suc-le-suc}
+use native.Mathlib.Nat.{not-suc-le-zero, le-of-suc-le-suc, zero-lt-suc, zero-add, suc-add, mod-lt, eq-or-lt-of-le}
+use native.Mathlib.Numerals.{add-one}
+use native.Mathlib.Omega.{arith}
+use lib.Bits.{bitAnd, bitOr, and-lt, or-lt, and-le-l}
+use lib.Arith.{digits-div, digits-mod}
+use lib.ListN.{length, getD, set, take, drop, length-append, length-drop, length-set}
+use lib.Seq.{ext-getD, getD-set-same, getD-set-other}
+use lib.Dec.{eqb}
+use lib.Pow.{pow-pos}
+use borrow.Author.Tests.{eq-eqb, ne-eqb}
+use Rattle.relation.specs.Matrix.{bit, wordOf, inRow, wordAt, rowOf}
+use Rattle.lts.specs.Bounded.{listBelow}
+use Rattle.relation.proofs.Bits.{word-ext, wordOf-lt, bit-wordOf, bit-and, bit-or, bit-not, bit-pow, one-shl}
+
+pub lt-or-ge : (a b : ℕ) → (a < b) ⊎ (b ≤ a)
+lt-or-ge a zero = inr zero-le
+lt-or-ge zero (suc b) = inl (suc-le-suc zero-le)
+lt-or-ge (suc a) (suc b) = ⊎-elim (λ h. inl (suc-le-suc h)) (λ h. inr (suc-le-suc h)) (lt-or-ge a b)
+
+-- ---- a list given by a function
+
+pub length-listBelow : (k : ℕ) (f : ℕ → ℕ) → length (listBelow k f) ≡ k
+unfolding listBelow
+length-listBelow zero f = refl
+length-listBelow (suc k) f = ap suc (length-listBelow k (λ i. f (suc i)))
+
+pub getD-listBelow : (k : ℕ) (f : ℕ → ℕ) (i : ℕ) → i < k → getD (listBelow k f) i 0 ≡ f i
+unfolding listBelow
+getD-listBelow zero f i h = absurd (not-suc-le-zero h)
+getD-listBelow (suc k) f zero h = refl
+getD-listBelow (suc k) f (suc i) h = getD-listBelow k (λ i. f (suc i)) i (le-of-suc-le-suc h)
+
+pub list-ext : (k : ℕ) (f : ℕ → ℕ) (l : List ℕ) → length l ≡ k → ((i : ℕ) → i < k → getD l i 0 ≡ f i) → l ≡ listBelow k f
+list-ext k f l e same =
+    ext-getD 0 l (listBelow k f) (e ∙ sym (length-listBelow k f)) (λ i h. same i (omega (arith, e, h)) ∙ sym (getD-listBelow k f i (omega (arith, e, h))))
+
+pub listBelow-cong : (k : ℕ) (f g : ℕ → ℕ) → ((i : ℕ) → i < k → f i ≡ g i) → listBelow k f ≡ listBelow k g
+listBelow-cong k f g same = list-ext k g (listBelow k f) (length-listBelow k f) (λ i h. getD-listBelow k f i h ∙ same i h)
+
+pub listBelow-add : (a b : ℕ) (f : ℕ → ℕ) → listBelow (a + b) f ≡ listBelow a f ++ listBelow b (λ i. f (a + i))
+unfolding listBelow
+listBelow-add zero b f = ap (λ (k : ℕ). listBelow k f) (zero-add b) ∙ listBelow-cong b f (λ i. f (0 + i)) (λ i h. ap f (sym (zero-add i)))
+listBelow-add (suc a) b f =
+    ap (λ (k : ℕ). listBelow k f) (suc-add a b)
+    ∙ ap (λ (t : List ℕ). f 0 ∷ t)
+    (listBelow-add a b (λ i. f (suc i)) ∙ ap (λ (t : List ℕ). listBelow a (λ i. f (suc i)) ++ t) (listBelow-cong b _ _ (λ i h. ap f (sym (suc-add a i)))))
+
+-- ---- a loop that fills a list from the front, one store a turn: after n turns it is `listBelow n f ++ drop n d`
+
+pub length-fill : (n : ℕ) (f : ℕ → ℕ) (d : List ℕ) → n ≤ length d → length (listBelow n f ++ drop n d) ≡ length d
+length-fill n f d h = omega (arith, length-append (listBelow n f) (drop n d), length-listBelow n f, length-drop n d)
+
+-- what is not yet filled is as it was
+pub getD-fill : (n : ℕ) (f : ℕ → ℕ) (d : List ℕ) → getD (listBelow n f ++ drop n d) n 0 ≡ getD d n 0
+unfolding listBelow
+getD-fill zero f d = refl
+getD-fill (suc n) f [] = beyond n (λ i. f (suc i))
+  where
+    beyond : (n : ℕ) (f : ℕ → ℕ) → getD (listBelow n f ++ []) n 0 ≡ 0
+    beyond zero f = refl
+    beyond (suc n) f = beyond n (λ i. f (suc i))
+getD-fill (suc n) f (x ∷ d) = getD-fill n (λ i. f (suc i)) d
+
+fill-suc : (n : ℕ) (f : ℕ → ℕ) (d : List ℕ) → n < length d → set (listBelow n f ++ drop n d) n (f n) ≡ listBelow (suc n) f ++ drop (suc n) d
+unfolding listBelow
+fill-suc n f [] l = absurd (not-suc-le-zero l)
+fill-suc zero f (x ∷ d) l = refl
+fill-suc (suc n) f (x ∷ d) l = ap (λ (t : List ℕ). f 0 ∷ t) (fill-suc n (λ i. f (suc i)) d (le-of-suc-le-suc l))
+
+pub fill-more : (n : ℕ) (f : ℕ → ℕ) (d : List ℕ) {v : ℕ} → n < length d → v ≡ f n → set (listBelow n f ++ drop n d) n v ≡ listBelow (n + 1) f ++ drop (n + 1) d
+fill-more n f d l e = rw (e, add-one) (fill-suc n f d l)
+
+-- ---- a row of words
+
+pub inRow-at : (row : List ℕ) (c i : ℕ) → i < 64 → inRow row (c * 64 + i) ≡ bit (getD row c 0) i
+unfolding inRow
+inRow-at row c i h = rw (digits-div c h, digits-mod c h)
+
+-- a word whose bits are those of S at c is word c of S
+pub word-at : (S : ℕ → Bool) (c : ℕ) {x : ℕ} → x < 2 ^ 64 → ((i : ℕ) → i < 64 → bit x i ≡ S (c * 64 + i)) → x ≡ wordAt S c
+unfolding wordAt
+word-at S c h e = word-ext 64 (λ i. S (c * 64 + i)) h e
+
+pub bit-wordAt : (S : ℕ → Bool) (c i : ℕ) → i < 64 → bit (wordAt S c) i ≡ S (c * 64 + i)
+unfolding wordAt
+bit-wordAt S c i h = bit-wordOf 64 (λ i. S (c * 64 + i)) i h
+
+pub wordAt-lt : (S : ℕ → Bool) (c : ℕ) → wordAt S c < 2 ^ 64
+unfolding wordAt
+wordAt-lt S c = wordOf-lt 64 (λ i. S (c * 64 + i))
+
+-- ---- a loop that fills a row word by word: after c turns the row is `rowOf c S ++ drop c d`
+
+module _ (S : ℕ → Bool) (d row : List ℕ) (c : ℕ) (now : row ≡ rowOf c S ++ drop c d) where
+  pub row-unread : getD row c 0 ≡ getD d c 0
+  row-unread = ap (λ (l : List ℕ). getD l c 0) now ∙ getD-fill c (wordAt S) d
+
+  pub row-store : {x : ℕ} → c < length d → x ≡ wordAt S c → set row c x ≡ rowOf (c + 1) S ++ drop (c + 1) d
+  row-store {x} l e = ap (λ (l : List ℕ). set l c x) now ∙ fill-more c (wordAt S) d l e
+
+  pub row-more : {x : ℕ} → c < length d → x < 2 ^ 64 → ((i : ℕ) → i < 64 → bit x i ≡ S (c * 64 + i)) → set row c x ≡ rowOf (c + 1) S ++ drop (c + 1) d
+  row-more l h e = row-store l (word-at S c h e)
+
+  pub row-done : {k : ℕ} → c ≡ k → row ≡ rowOf k S ++ drop k d
+  row-done e = now ∙ ap (λ (m : ℕ). rowOf m S ++ drop m d) e
+
+-- a row that has no state in its first c words, nor in the t lowest bits of word c
+pub row-before : (row : List ℕ) (c t : ℕ) → t ≤ 64 → ((q : ℕ) → q < c * 64 → inRow row q ≡ false) → ((i : ℕ) → i < t → bit (getD row c 0) i ≡ false)
+    → (q : ℕ) → q < c * 64 + t → inRow row q ≡ false
+row-before row c t small below here q h =
+    ⊎-elim (λ (l : q < c * 64). below q l)
+    (λ (l : c * 64 ≤ q).
+    let split : q ≡ c * 64 + (q - c * 64) = omega arith in
+    ap (inRow row) split ∙ inRow-at row c (q - c * 64) (omega arith) ∙ here (q - c * 64) (omega arith))
+    (lt-or-ge q (c * 64))
+
+-- ---- an operation on words that goes bit by bit, and what it makes of two rows
+
+pub record Bitwise (op : ℕ → ℕ → ℕ) (β : Bool → Bool → Bool) : Type 0 where
+  pub small : (x y : ℕ) → x < 2 ^ 64 → y < 2 ^ 64 → op x y < 2 ^ 64
+  pub bits : (x y i : ℕ) → x < 2 ^ 64 → y < 2 ^ 64 → i < 64 → bit (op x y) i ≡ β (bit x i) (bit y i)
+
+pub and-bitwise : Bitwise bitAnd _&&_
+and-bitwise = record { small = λ x y hx hy. and-lt 64 x y hx hy; bits = λ x y i hx hy l. bit-and x y i }
+
+pub or-bitwise : Bitwise bitOr _||_
+or-bitwise = record { small = λ x y hx hy. or-lt 64 x y hx hy; bits = λ x y i hx hy l. bit-or x y i }
+
+pub minus-bitwise : Bitwise (λ x y. bitAnd x ((2 ^ 64 - 1) - y)) (λ a b. a && not b)
+minus-bitwise = record {
+  small = λ x y hx hy. omega (arith, and-le-l x ((2 ^ 64 - 1) - y));
+  bits = λ x y i hx hy l. bit-and x ((2 ^ 64 - 1) - y) i ∙ ap (λ (b : Bool). bit x i && b) (bit-not 64 y i l hy);
+}
+
+pub zip-more : (op : ℕ → ℕ → ℕ) (β : Bool → Bool → Bool) → Bitwise op β → (d mask row : List ℕ) (c : ℕ)
+    → row ≡ rowOf c (λ q. β (inRow d q) (inRow mask q)) ++ drop c d → c < length d → getD row c 0 < 2 ^ 64 → getD mask c 0 < 2 ^ 64
+    → set row c (op (getD row c 0) (getD mask c 0)) ≡ rowOf (c + 1) (λ q. β (inRow d q) (inRow mask q)) ++ drop (c + 1) d
+zip-more op β ok d mask row c now l hr hm =
+    row-more _ d row c now l (ok .small _ _ hr hm) (λ i h.
+    ok .bits _ _ i hr hm h
+    ∙ ap₂ β (ap (λ (x : ℕ). bit x i) (row-unread _ d row c now) ∙ sym (inRow-at d c i h)) (sym (inRow-at mask c i h)))
+
+-- ---- one state more in a row: `row[q / 64] | 1 << q % 64`
+
+pub row-insert : (row : List ℕ) (q : ℕ) → q / 64 < length row → ((j : ℕ) → getD row j 0 < 2 ^ 64)
+    → set row (q / 64) (bitOr (getD row (q / 64) 0) (1 * 2 ^ (q % 64) % 2 ^ 64)) ≡ rowOf (length row) (λ x. eqb x q || inRow row x)
+row-insert row q h words =
+    list-ext (length row) (wordAt S) (set row (q / 64) v) (length-set row (q / 64) v) (λ j l.
+    ⊎-elim (λ (e : j ≡ q / 64). ap (λ (k : ℕ). getD (set row (q / 64) v) k 0) e ∙ getD-set-same row (q / 64) v 0 h ∙ here ∙ ap (wordAt S) (sym e))
+    (λ (ne : j ≡ q / 64 → ⊥). getD-set-other row (q / 64) j v 0 ne ∙ word-at S j (words j) (λ i k.
+    sym (inRow-at row j i k) ∙ sym (ap (λ (b : Bool). b || inRow row (j * 64 + i)) (ne-eqb (j * 64 + i) q (λ e. ne (omega arith)))))) (same j (q / 64)))
+  where
+    S : ℕ → Bool
+    S x = eqb x q || inRow row x
+
+    v : ℕ
+    v = bitOr (getD row (q / 64) 0) (1 * 2 ^ (q % 64) % 2 ^ 64)
+
+    low : q % 64 < 64
+    low = mod-lt q (omega arith)
+
+    same : (a b : ℕ) → (a ≡ b) ⊎ (a ≡ b → ⊥)
+    same a b = ⊎-elim (λ (l : a < b). inr (λ e. omega arith)) (λ (l : b ≤ a). ⊎-elim (λ e. inl (sym e)) (λ (m : b < a). inr (λ e. omega arith)) (eq-or-lt-of-le l)) (lt-or-ge a b)
+
+    swap : (a b : Bool) → a || b ≡ b || a
+    swap true true = refl
+    swap true false = refl
+    swap false true = refl
+    swap false false = refl
+
+    place : (i : ℕ) → i < 64 → eqb i (q % 64) ≡ eqb (q / 64 * 64 + i) q
+    place i l = ⊎-elim (λ (e : i ≡ q % 64). eq-eqb i (q % 64) e ∙ sym (eq-eqb (q / 64 * 64 + i) q (omega arith)))
+        (λ ne. ne-eqb i (q % 64) ne ∙ sym (ne-eqb (q / 64 * 64 + i) q (λ e. ne (omega arith)))) (same i (q % 64))
+
+    here : v ≡ wordAt S (q / 64)
+    here = word-at S (q / 64) (or-lt 64 _ _ (words (q / 64)) (mod-lt (1 * 2 ^ (q % 64)) (pow-pos 64))) (λ i l.
+        bit-or (getD row (q / 64) 0) (1 * 2 ^ (q % 64) % 2 ^ 64) i
+        ∙ ap₂ _||_ (sym (inRow-at row (q / 64) i l)) (ap (λ (x : ℕ). bit x i) (one-shl (q % 64) low) ∙ bit-pow (q % 64) i ∙ place i l)
+        ∙ swap (inRow row (q / 64 * 64 + i)) (eqb (q / 64 * 64 + i) q))

@@ -1,0 +1,81 @@
+-- Sets of states as rows of 64-bit words, and relations as bit matrices of such rows (document 01, "Grids").
+use mathlib.Core.Path.{_≡_}
+use mathlib.Core.Bool.{Bool, false, cond, not, _&&_, _||_}
+use mathlib.Core.List.{List}
+use Prim.Native.Nat.{ℕ, zero, suc, _+_, _*_, _/_, _%_, _^_, _<_, _≤_}
+use lib.Dec.{eqb, ltb}
+use lib.ListN.{length, getD}
+use Rattle.lts.specs.Bounded.{sumBelow, countBelow, listBelow}
+use Rattle.lts.specs.System.{Set, Rel}
+
+-- bit i of x, bit 0 the lowest
+unfoldable pub bit : ℕ → ℕ → Bool
+bit x i = eqb (x / 2 ^ i % 2) 1
+
+abbrev pub digit : Bool → ℕ
+digit b = cond b 1 0
+
+-- the number of k bits whose bit i is f i
+unfoldable pub wordOf : ℕ → Set → ℕ
+wordOf zero f = 0
+wordOf (suc k) f = wordOf k (λ i. f (suc i)) * 2 + digit (f 0)
+
+-- the set of states that a row of words holds: state q is bit q mod 64 of word q / 64
+unfoldable pub inRow : List ℕ → Set
+inRow row q = bit (getD row (q / 64) 0) (q % 64)
+
+-- word c of the set S
+unfoldable pub wordAt : Set → ℕ → ℕ
+wordAt S c = wordOf 64 (λ i. S (c * 64 + i))
+
+-- k words that hold the set S
+abbrev pub rowOf : ℕ → Set → List ℕ
+rowOf k S = listBelow k (wordAt S)
+
+-- w, the words of a row of n states
+abbrev pub rowWords : ℕ → ℕ
+rowWords n = (n + 63) / 64
+
+-- the members of S below n
+abbrev pub statesBelow : ℕ → Set → Set
+statesBelow n S q = ltb q n && S q
+
+-- the relation that a matrix with rows of w words holds
+unfoldable pub inMatrix : ℕ → List ℕ → Rel
+inMatrix w g p q = bit (getD g (p * w + q / 64) 0) (q % 64)
+
+abbrev pub relationOf : ℕ → List ℕ → Rel
+relationOf n g = inMatrix (rowWords n) g
+
+-- word j of the matrix of R: word j mod w of row j / w
+abbrev pub matrixWord : ℕ → Rel → ℕ → ℕ
+matrixWord n R j = wordAt (statesBelow n (R (j / rowWords n))) (j % rowWords n)
+
+-- the matrix (grid) of the relation R on n states
+unfoldable pub matrixOf : ℕ → Rel → List ℕ
+matrixOf n R = listBelow (n * rowWords n) (matrixWord n R)
+
+-- the list is a matrix on n states: n rows of w words, and no bit at q ≥ n
+pub record Matrix (n : ℕ) (g : List ℕ) : Type 0 where
+  pub long : length g ≡ n * rowWords n
+  pub clear : (p q : ℕ) → p < n → n ≤ q → q < rowWords n * 64 → relationOf n g p q ≡ false
+
+-- how many pairs of states R has
+unfoldable pub pairCount : ℕ → Rel → ℕ
+pairCount n R = sumBelow n (λ p. countBelow n (R p))
+
+-- R with the set S for its row p
+abbrev pub setRow : ℕ → Set → Rel → Rel
+setRow p S R t q = cond (eqb t p) (S q) (R t q)
+
+-- R without (p, q) for each q of M
+abbrev pub withoutStates : ℕ → Set → Rel → Rel
+withoutStates p M R t q = R t q && not (eqb t p && M q)
+
+-- R without A × M
+abbrev pub withoutProduct : Set → Set → Rel → Rel
+withoutProduct A M R t q = R t q && not (A t && M q)
+
+-- R with the rows of N in place of its first p rows
+abbrev pub rowsOf : ℕ → Rel → Rel → Rel
+rowsOf p N R t q = cond (ltb t p) (N t q) (R t q)
