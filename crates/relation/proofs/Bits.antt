@@ -1,13 +1,13 @@
 -- Laws of the bits of a number: what `&`, `|`, `!` do at each bit, and that a number of k bits is what its bits say. Assumes nothing.
-use mathlib.Core.Path.{_≡_, refl, sym, ap, ap₂, _∙_, subst}
-use mathlib.Core.Bool.{Bool, true, false, not, _&&_, _||_}
+use mathlib.Core.Path.{_≡_, refl, sym, ap, ap₂, _∙_}
+use mathlib.Core.Bool.{Bool, true, false, not, _&&_, _||_, xor}
 use mathlib.Core.Logic.{_⊎_, inl, inr}
-use Prim.Native.Nat.{ℕ, zero, suc, _+_, _-_, _*_, _/_, _%_, _^_, _≤_, _<_, zero-le, suc-le-suc, min, max}
-use native.Mathlib.Nat.{not-suc-le-zero, le-of-suc-le-suc, zero-lt-suc, pow-suc, pow-zero, div-one, mod-lt, mod-mod, div-div-eq-div-mul, mul-comm, div-add-mod', suc-sub-suc, mod-eq-of-lt, sub-self, sub-zero, suc-add, add-suc, add-zero, zero-add, lt-of-lt-of-le, zero-div, one-mul}
+use Prim.Native.Nat.{ℕ, zero, suc, _+_, _-_, _*_, _/_, _%_, _^_, _≤_, _<_, suc-le-suc, min, max}
+use native.Mathlib.Nat.{not-suc-le-zero, le-of-suc-le-suc, zero-lt-suc, pow-suc, div-one, mod-lt, div-div-eq-div-mul, mul-comm, mod-eq-of-lt, sub-self, sub-zero, suc-add, add-suc, add-zero, zero-add, lt-of-lt-of-le, zero-div, one-mul}
 use native.Mathlib.Omega.{arith}
 use lib.Dec.{eqb, eqb·suc-zero, eqb·zero-suc, eqb·suc-suc}
 use lib.Pow.{pow-mono, pow-pos, pow-lt}
-use lib.Bits.{bitAnd, bitOr, and-shr, or-shr, and-step, or-step, and-le-l, or-lt}
+use lib.Bits.{bitAnd, bitOr, bitXor, differ, and-shr, or-shr, xor-shr, and-step, or-step, xor-step}
 use Rattle.relation.specs.Matrix.{bit, digit, wordOf}
 
 -- a bit is 0 or 1
@@ -106,6 +106,20 @@ bit-or a b i =
     step x y = rw (or-step x y) (omega arith)
 
     low : (x y : ℕ) → (x % 2 ≡ 0) ⊎ (x % 2 ≡ 1) → (y % 2 ≡ 0) ⊎ (y % 2 ≡ 1) → eqb (bitOr x y % 2) 1 ≡ eqb (x % 2) 1 || eqb (y % 2) 1
+    low x y (inl e) (inl f) = rw (step x y, e, f)
+    low x y (inl e) (inr f) = rw (step x y, e, f)
+    low x y (inr e) (inl f) = rw (step x y, e, f)
+    low x y (inr e) (inr f) = rw (step x y, e, f)
+
+pub bit-xor : (a b i : ℕ) → bit (bitXor a b) i ≡ xor (bit a i) (bit b i)
+unfolding bit xor
+bit-xor a b i =
+    ap (λ (y : ℕ). eqb (y % 2) 1) (xor-shr a b i) ∙ low (a / 2 ^ i) (b / 2 ^ i) (digit-cases (a / 2 ^ i)) (digit-cases (b / 2 ^ i))
+  where
+    step : (x y : ℕ) → bitXor x y % 2 ≡ differ (x % 2) (y % 2) % 2
+    step x y = rw (xor-step x y) (omega arith)
+
+    low : (x y : ℕ) → (x % 2 ≡ 0) ⊎ (x % 2 ≡ 1) → (y % 2 ≡ 0) ⊎ (y % 2 ≡ 1) → eqb (bitXor x y % 2) 1 ≡ xor (eqb (x % 2) 1) (eqb (y % 2) 1)
     low x y (inl e) (inl f) = rw (step x y, e, f)
     low x y (inl e) (inr f) = rw (step x y, e, f)
     low x y (inr e) (inl f) = rw (step x y, e, f)

@@ -1,82 +1,27 @@
 -- Laws of the tests: what a test over every number below a bound says, inclusion of words and rows, and the bits from n on. Assumes nothing.
 use mathlib.Core.Path.{_≡_, refl, sym, ap, ap₂, _∙_, subst, subst⁻¹}
-use mathlib.Core.Bool.{Bool, true, false, not, _&&_, _||_}
+use mathlib.Core.Bool.{Bool, true, false, cond, not, _&&_, _||_, xor}
 use mathlib.Core.List.{List}
-use mathlib.Core.Logic.{_⊎_, inl, inr, ⊎-elim}
-use Prim.Native.Nat.{ℕ, zero, suc, _+_, _-_, _*_, _/_, _%_, _^_, _≤_, _<_, zero-le, suc-le-suc}
-use native.Mathlib.Nat.{not-suc-le-zero, le-refl, eq-or-lt-of-le, le-of-suc-le-suc, zero-div, mod-lt, div-add-mod', add-comm}
-use native.Mathlib.Numerals.{add-one}
+use mathlib.Core.Logic.{⊎-elim}
+use Prim.Native.Nat.{ℕ, _+_, _-_, _*_, _/_, _%_, _^_, _≤_, _<_}
+use native.Mathlib.Nat.{div-lt-iff-lt-mul, mod-lt, div-add-mod'}
 use native.Mathlib.Omega.{arith}
-use lib.Dec.{eqb, ltb}
-use lib.Arith.{digits-div, digits-mod}
-use lib.Bits.{bitAnd, and-le-l}
-use lib.Pow.{shr-shr, shr-lt, pow-pos}
+use lib.Dec.{T, eqb}
+use lib.Pow.{shr-shr, shr-lt}
 use lib.Count.{trailingZeros}
-use lib.ListN.{length, getD, take, drop}
+use lib.ListN.{length, getD, drop}
 use borrow.Author.Tests.{lt-ltb, le-ltb, eq-eqb, ne-eqb, eqb-true, not-true}
-use Rattle.relation.specs.Matrix.{bit, digit, wordOf, inRow, inMatrix, relationOf, rowWords, Matrix}
-use Rattle.relation.specs.Check.{includedBelow, clearAt, isMatrix}
-use Rattle.lts.specs.Bounded.{allBelow, _⇒_}
-use Rattle.relation.proofs.Bits.{bit-and, bit-not, word-ext, bit-of-zero, word-zero}
-use Rattle.relation.proofs.Rows.{lt-or-ge, inRow-at}
+use Rattle.relation.specs.Matrix.{bit, inRow, inMatrix, relationOf, rowWords, Matrix}
+use Rattle.relation.specs.Check.{includedBelow, withinBelow, reflexiveBelow, transitivePair, transitiveAt, transitiveBelow, clearAt, isMatrix, checkPreorder}
+use Rattle.relation.specs.declared.Checked.the-variants.{Preorder, Refused}
+use Rattle.lts.specs.declared.Refusal.the-variants.{Grid, NotReflexive, NotTransitive}
+use Rattle.lts.specs.System.{Lts, allStates, reflexive, transitive}
+use Rattle.lts.specs.Bounded.{lowest, anyBelow, allBelow, _⇒_}
+use Rattle.relation.proofs.Bits.{word-ext, bit-of-zero, word-zero}
+use Rattle.relation.proofs.Rows.{Bitwise, inRow-at}
+use Rattle.relation.proofs.Bounded.{any-cong, any-shorter, lowest-cong, lowest-shorter, all-at, all-cong, all-of, all-shorter, all-yes, and-fst, and-snd, bool-iff, clash, lt-or-ge, any-yes, any-no, any-some, either, all-not, true-T}
 use Rattle.relation.proofs.Counts.{trailing-lt, trailing-at}
-use Rattle.relation.proofs.Matrices.{inRow-drop, inMatrix-at}
-
--- ---- truth values
-
-pub clash : {b : Bool} → b ≡ true → b ≡ false → ⊥
-clash p q = let z : digit true ≡ digit false = ap digit (sym p ∙ q) in omega arith
-
-pub either : (b : Bool) → (b ≡ true) ⊎ (b ≡ false)
-either true = inl refl
-either false = inr refl
-
-pub bool-iff : {a b : Bool} → (a ≡ true → b ≡ true) → (b ≡ true → a ≡ true) → a ≡ b
-bool-iff {a} {b} f g = ⊎-elim (λ p. p ∙ sym (f p)) (λ p. ⊎-elim (λ q. g q ∙ sym q) (λ q. p ∙ sym q) (either b)) (either a)
-
-pub and-fst : (a b : Bool) → a && b ≡ true → a ≡ true
-and-fst true b e = refl
-and-fst false b e = e
-
-pub and-snd : (a b : Bool) → a && b ≡ true → b ≡ true
-and-snd true b e = e
-and-snd false b e = absurd (clash e refl)
-
-pub implies-of : (a b : Bool) → (a ≡ true → b ≡ true) → _⇒_ a b ≡ true
-implies-of true b f = f refl
-implies-of false b f = refl
-
-pub implies-use : (a b : Bool) → _⇒_ a b ≡ true → a ≡ true → b ≡ true
-implies-use a b e p = sym (ap (λ (x : Bool). _⇒_ x b) p) ∙ e
-
--- ---- every number below a bound
-
-pub all-of : (k : ℕ) (f : ℕ → Bool) → ((i : ℕ) → i < k → f i ≡ true) → allBelow k f ≡ true
-unfolding allBelow
-all-of zero f e = refl
-all-of (suc k) f e = ap₂ _&&_ (all-of k f (λ i h. e i (omega arith))) (e k (le-refl (suc k)))
-
-pub all-at : (k : ℕ) (f : ℕ → Bool) → allBelow k f ≡ true → (i : ℕ) → i < k → f i ≡ true
-unfolding allBelow
-all-at zero f e i h = absurd (not-suc-le-zero h)
-all-at (suc k) f e i h =
-    ⊎-elim (λ p. ap f p ∙ and-snd (allBelow k f) (f k) e) (λ l. all-at k f (and-fst (allBelow k f) (f k) e) i l) (eq-or-lt-of-le (le-of-suc-le-suc h))
-
-pub all-yes : (k : ℕ) (f : ℕ → Bool) → ((i : ℕ) → i < k → f i ≡ true) → true ≡ allBelow k f
-all-yes k f e = sym (all-of k f e)
-
--- one that fails
-pub all-not : (k : ℕ) (f : ℕ → Bool) (i : ℕ) → i < k → f i ≡ false → false ≡ allBelow k f
-all-not k f i h e = ⊎-elim (λ p. absurd (clash (all-at k f p i h) e)) sym (either (allBelow k f))
-
-pub all-cong : (k : ℕ) (f g : ℕ → Bool) → ((i : ℕ) → i < k → f i ≡ g i) → allBelow k f ≡ allBelow k g
-all-cong k f g e = bool-iff (λ p. all-of k g (λ i h. sym (e i h) ∙ all-at k f p i h)) (λ p. all-of k f (λ i h. e i h ∙ all-at k g p i h))
-
--- from n on there is nothing to test
-pub all-shorter : (n m : ℕ) (f : ℕ → Bool) → n ≤ m → ((i : ℕ) → n ≤ i → i < m → f i ≡ true) → allBelow m f ≡ allBelow n f
-all-shorter n m f h rest =
-    bool-iff (λ p. all-of n f (λ i l. all-at m f p i (omega arith)))
-    (λ p. all-of m f (λ i l. ⊎-elim (λ (k : i < n). all-at n f p i k) (λ (k : n ≤ i). rest i k l) (lt-or-ge i n)))
+use Rattle.relation.proofs.Matrices.{inRow-drop, inMatrix-at, pair-word, width-positive}
 
 -- ---- numbers in blocks of 64
 
@@ -86,36 +31,53 @@ block-more P c t below here q h =
     (λ (l : c * 64 ≤ q). let split : c * 64 + (q - c * 64) ≡ q = omega arith in subst P split (here (q - c * 64) (omega arith)))
     (lt-or-ge q (c * 64))
 
--- ---- inclusion of words: `x & !y` is 0 where every bit of x is one of y
+-- ---- a test of two rows by a bitwise operation on their words: is the word 0?
 
-pub outside-lt : (x y : ℕ) → x < 2 ^ 64 → bitAnd x ((2 ^ 64 - 1) - y) < 2 ^ 64
-outside-lt x y h = omega (arith, and-le-l x ((2 ^ 64 - 1) - y))
+module _ (op : ℕ → ℕ → ℕ) (β : Bool → Bool → Bool) (ok : Bitwise op β) (a b : List ℕ) (c : ℕ) (ha : getD a c 0 < 2 ^ 64) (hb : getD b c 0 < 2 ^ 64) where
+  at-bit : (i : ℕ) → i < 64 → β (inRow a (c * 64 + i)) (inRow b (c * 64 + i)) ≡ bit (op (getD a c 0) (getD b c 0)) i
+  at-bit i l = ap₂ β (inRow-at a c i l) (inRow-at b c i l) ∙ sym (ok .bits _ _ i ha hb l)
 
-pub bit-outside : (x y i : ℕ) → y < 2 ^ 64 → i < 64 → bit (bitAnd x ((2 ^ 64 - 1) - y)) i ≡ bit x i && not (bit y i)
-bit-outside x y i h l = bit-and x ((2 ^ 64 - 1) - y) i ∙ ap (λ (b : Bool). bit x i && b) (bit-not 64 y i l h)
+  -- it is not: some member is found
+  pub word-found : (k : ℕ) → c < k → (op (getD a c 0) (getD b c 0) ≡ 0 → ⊥) → true ≡ anyBelow (k * 64) (λ q. β (inRow a q) (inRow b q))
+  word-found k h ne =
+      let z = op (getD a c 0) (getD b c 0) in
+      let low = trailing-lt 64 z (ok .small _ _ ha hb) ne in
+      any-yes (k * 64) _ (c * 64 + trailingZeros 64 z) (omega (arith, low)) (at-bit (trailingZeros 64 z) low ∙ trailing-at 64 z low)
 
-pub outside-none : (x y : ℕ) → y < 2 ^ 64 → bitAnd x ((2 ^ 64 - 1) - y) ≡ 0 → (i : ℕ) → i < 64 → _⇒_ (bit x i) (bit y i) ≡ true
-outside-none x y h e i l = de-morgan (bit x i) (bit y i) (sym (bit-outside x y i h l) ∙ ap (λ (z : ℕ). bit z i) e ∙ bit-of-zero i)
+  -- it is: none in this word
+  pub word-passed : op (getD a c 0) (getD b c 0) ≡ 0 → ((q : ℕ) → q < c * 64 → β (inRow a q) (inRow b q) ≡ false)
+      → (q : ℕ) → q < (c + 1) * 64 → β (inRow a q) (inRow b q) ≡ false
+  word-passed e none q h =
+      block-more (λ q. β (inRow a q) (inRow b q) ≡ false) c 64 none (λ i l. at-bit i l ∙ ap (λ (z : ℕ). bit z i) e ∙ bit-of-zero i) q (omega arith)
+
+pub none-passed : (k c : ℕ) (f : ℕ → Bool) → c ≡ k → ((q : ℕ) → q < c * 64 → f q ≡ false) → false ≡ anyBelow (k * 64) f
+none-passed k c f e none = any-no (k * 64) f (λ q h. none q (omega arith))
+
+-- inclusion: no member of A is outside B
+pub included-any : (k : ℕ) (A B : ℕ → Bool) → not (anyBelow k (λ q. A q && not (B q))) ≡ includedBelow k A B
+unfolding includedBelow
+included-any k A B = ⊎-elim
+    (λ p. let s = any-some k outside p in ap not p ∙ all-not k _ (s .0) (s .1) (out (A (s .0)) (B (s .0)) (s .2)))
+    (λ p. ap not p ∙ all-yes k _ (λ q h. inside (A q) (B q) (not-any q h p)))
+    (either (anyBelow k outside))
   where
-    de-morgan : (a b : Bool) → a && not b ≡ false → _⇒_ a b ≡ true
-    de-morgan true true p = refl
-    de-morgan true false p = sym p
-    de-morgan false b p = refl
+    outside : ℕ → Bool
+    outside q = A q && not (B q)
 
--- a bit of x that is none of y's
-pub outside-some : (x y : ℕ) → x < 2 ^ 64 → y < 2 ^ 64 → (bitAnd x ((2 ^ 64 - 1) - y) ≡ 0 → ⊥) → (i : ℕ) × (i < 64) × (_⇒_ (bit x i) (bit y i) ≡ false)
-outside-some x y hx hy ne =
-    let z = bitAnd x ((2 ^ 64 - 1) - y) in
-    let low = trailing-lt 64 z (outside-lt x y hx) ne in
-    let i = trailingZeros 64 z in
-    (i, low, de-morgan (bit x i) (bit y i) (sym (bit-outside x y i hy low) ∙ trailing-at 64 z low))
-  where
-    de-morgan : (a b : Bool) → a && not b ≡ true → _⇒_ a b ≡ false
-    de-morgan true true p = sym p
-    de-morgan true false p = refl
-    de-morgan false b p = absurd (clash p refl)
+    not-any : (q : ℕ) → q < k → anyBelow k outside ≡ false → outside q ≡ false
+    not-any q h p = ⊎-elim (λ e. absurd (clash (sym (any-yes k outside q h e)) p)) (λ e. e) (either (outside q))
 
--- ---- inclusion of a grid's rows
+    out : (a b : Bool) → a && not b ≡ true → (a ⇒ b) ≡ false
+    out true true p = sym p
+    out true false p = refl
+    out false b p = absurd (clash p refl)
+
+    inside : (a b : Bool) → a && not b ≡ false → (a ⇒ b) ≡ true
+    inside true true p = refl
+    inside true false p = sym p
+    inside false b p = refl
+
+-- ---- inclusion of a matrix's rows
 
 pub rows-within : (n : ℕ) (g : List ℕ) (p q : ℕ) → Matrix n g → p < n
     → includedBelow (rowWords n * 64) (inRow (drop (p * rowWords n) g)) (inRow (drop (q * rowWords n) g)) ≡ includedBelow n (relationOf n g p) (relationOf n g q)
@@ -124,6 +86,27 @@ rows-within n g p q ok hp =
     all-cong (rowWords n * 64) _ _ (λ i l. ap₂ _⇒_ (inRow-drop (rowWords n) g p i) (inRow-drop (rowWords n) g q i))
     ∙ all-shorter n (rowWords n * 64) (λ i. _⇒_ (relationOf n g p i) (relationOf n g q i)) (omega arith)
     (λ i h l. ap (λ (b : Bool). _⇒_ b (relationOf n g q i)) (ok .clear p i hp h l))
+
+-- a row of a matrix and a set, two rows of matrices
+pub rows-meet : (n : ℕ) (g : List ℕ) (p : ℕ) (S : ℕ → Bool) → Matrix n g → p < n
+    → anyBelow (rowWords n * 64) (λ q. inRow (drop (p * rowWords n) g) q && S q) ≡ anyBelow n (λ q. relationOf n g p q && S q)
+rows-meet n g p S ok hp =
+    any-cong (rowWords n * 64) _ _ (λ q l. ap (λ (b : Bool). b && S q) (inRow-drop (rowWords n) g p q))
+    ∙ any-shorter n (rowWords n * 64) (λ q. relationOf n g p q && S q) (omega arith) (λ q h l. ap (λ (b : Bool). b && S q) (ok .clear p q hp h l))
+
+pub rows-differ : (n : ℕ) (g h : List ℕ) (p r : ℕ) → Matrix n g → Matrix n h → p < n → r < n
+    → anyBelow (rowWords n * 64) (λ q. xor (inRow (drop (p * rowWords n) g) q) (inRow (drop (r * rowWords n) h) q)) ≡ anyBelow n (λ q. xor (relationOf n g p q) (relationOf n h r q))
+unfolding xor
+rows-differ n g h p r okg okh hp hr =
+    any-cong (rowWords n * 64) _ _ (λ q l. ap₂ xor (inRow-drop (rowWords n) g p q) (inRow-drop (rowWords n) h r q))
+    ∙ any-shorter n (rowWords n * 64) (λ q. xor (relationOf n g p q) (relationOf n h r q)) (omega arith)
+    (λ q l u. ap₂ xor (okg .clear p q hp l u) (okh .clear r q hr l u))
+
+-- the lowest state of a row that has one
+pub row-lowest : (n : ℕ) (g : List ℕ) (p q : ℕ) → p < n → q < n → relationOf n g p q ≡ true
+    → lowest (rowWords n * 64) (inRow (drop (p * rowWords n) g)) ≡ lowest n (relationOf n g p)
+row-lowest n g p q hp hq e =
+    lowest-cong (rowWords n * 64) _ _ (λ i. inRow-drop (rowWords n) g p i) ∙ lowest-shorter n (rowWords n * 64) (relationOf n g p) (omega arith) q hq e
 
 -- ---- the bits of a word from m on: none is set where `x >> m` is 0
 
@@ -177,7 +160,7 @@ module _ (n : ℕ) (g : List ℕ) (p : ℕ) where
           sym (high-bit i (omega arith))
           ∙ not-true (relationOf n g p q) (sym (ap (λ (b : Bool). b || not (relationOf n g p q)) (le-ltb q n (omega arith))) ∙ all-at _ _ e q (omega arith))))
 
--- ---- the test of a grid says that it is is-matrix
+-- ---- the test of a matrix says that it is one
 
 pub matrix-test : (n : ℕ) (g : List ℕ) → isMatrix n g ≡ true → Matrix n g
 unfolding isMatrix
@@ -201,3 +184,92 @@ wrong-length n g h = sym (ap (λ (b : Bool). b && allBelow n (clearAt n g)) (ne-
 pub right-length : (n : ℕ) (g : List ℕ) → length g ≡ n * rowWords n → allBelow n (clearAt n g) ≡ isMatrix n g
 unfolding isMatrix
 right-length n g h = sym (ap (λ (b : Bool). b && allBelow n (clearAt n g)) (eq-eqb (length g) (n * rowWords n) h))
+
+-- ---- transitivity by rows
+
+pub pair-none : (n : ℕ) (R : ℕ → ℕ → Bool) (p q : ℕ) → R p q ≡ false → true ≡ transitivePair n R p q
+unfolding transitivePair
+pair-none n R p q e = all-yes n _ (λ r h. ap (λ (b : Bool). b && R q r ⇒ R p r) e)
+
+pub pair-some : (n : ℕ) (R : ℕ → ℕ → Bool) (p q : ℕ) → R p q ≡ true → includedBelow n (R q) (R p) ≡ transitivePair n R p q
+unfolding transitivePair includedBelow
+pair-some n R p q e = all-cong n _ _ (λ r h. sym (ap (λ (b : Bool). b && R q r ⇒ R p r) e))
+
+-- ---- a matrix as one row
+
+pub inRow-flat : (w : ℕ) (g : List ℕ) (p q : ℕ) → inRow g (p * w * 64 + q) ≡ inMatrix w g p q
+unfolding inMatrix
+inRow-flat w g p q =
+    let split : p * w * 64 + q ≡ (p * w + q / 64) * 64 + q % 64 = omega arith in
+    ap (inRow g) split ∙ inRow-at g (p * w + q / 64) (q % 64) (mod-lt q (omega arith))
+
+pub matrix-included : (n : ℕ) (a b : List ℕ) → Matrix n a → includedBelow (length a * 64) (inRow a) (inRow b) ≡ withinBelow n (relationOf n a) (relationOf n b)
+unfolding includedBelow withinBelow
+matrix-included n a b ok = bool-iff there back
+  where
+    w : ℕ
+    w = rowWords n
+
+    at : (p q : ℕ) → (inRow a (p * w * 64 + q) ⇒ inRow b (p * w * 64 + q)) ≡ (relationOf n a p q ⇒ relationOf n b p q)
+    at p q = ap₂ _⇒_ (inRow-flat w a p q) (inRow-flat w b p q)
+
+    there : allBelow (length a * 64) (λ x. inRow a x ⇒ inRow b x) ≡ true → allBelow n (λ p. allBelow n (λ q. relationOf n a p q ⇒ relationOf n b p q)) ≡ true
+    there e = all-of n _ (λ p hp. all-of n _ (λ q hq.
+        sym (at p q) ∙ all-at _ _ e (p * w * 64 + q) (omega (arith, pair-word n a hp hq (ok .long)))))
+
+    back : allBelow n (λ p. allBelow n (λ q. relationOf n a p q ⇒ relationOf n b p q)) ≡ true → allBelow (length a * 64) (λ x. inRow a x ⇒ inRow b x) ≡ true
+    back e = all-of _ _ (λ x hx.
+        let word : x / 64 < n * w = omega (arith, ok .long) in
+        let pos : 0 < w = width-positive n w word in
+        let p = x / 64 / w in
+        let q = x / 64 % w * 64 + x % 64 in
+        let hp : p < n = div-lt-iff-lt-mul pos .1 word in
+        let col : x / 64 % w < w = mod-lt (x / 64) pos in
+        let split : x ≡ p * w * 64 + q = omega (arith, div-add-mod' (x / 64) w) in
+        ap (λ (y : ℕ). inRow a y ⇒ inRow b y) split ∙ at p q
+        ∙ ⊎-elim (λ (h : q < n). all-at n _ (all-at n _ e p hp) q h)
+        (λ (h : n ≤ q). ap (λ (t : Bool). t ⇒ relationOf n b p q) (ok .clear p q hp h (omega arith))) (lt-or-ge q n))
+
+-- ---- the checks of a preorder
+
+zero-not-one : _≡_ {A = ℕ} 0 1 → ⊥
+zero-not-one z = omega arith
+
+module _ (n : ℕ) (g : List ℕ) where
+  pub check-grid : isMatrix n g ≡ false → Refused Grid ≡ checkPreorder n g
+  unfolding checkPreorder
+  check-grid e = rw e
+
+  pub check-reflexive : isMatrix n g ≡ true → reflexiveBelow n (relationOf n g) ≡ false → Refused NotReflexive ≡ checkPreorder n g
+  unfolding checkPreorder
+  check-reflexive e f = rw (e, f)
+
+  pub check-transitive : isMatrix n g ≡ true → reflexiveBelow n (relationOf n g) ≡ true → transitiveBelow n (relationOf n g) ≡ false → Refused NotTransitive ≡ checkPreorder n g
+  unfolding checkPreorder
+  check-transitive e f h = rw (e, f, h)
+
+  pub check-passes : isMatrix n g ≡ true → reflexiveBelow n (relationOf n g) ≡ true → transitiveBelow n (relationOf n g) ≡ true → Preorder ≡ checkPreorder n g
+  unfolding checkPreorder
+  check-passes e f h = rw (e, f, h)
+
+  -- what a caller has from an answer that refuses nothing
+  passed : checkPreorder n g ≡ Preorder → (isMatrix n g ≡ true) × (reflexiveBelow n (relationOf n g) ≡ true) × (transitiveBelow n (relationOf n g) ≡ true)
+  unfolding checkPreorder
+  passed e = go (isMatrix n g) (reflexiveBelow n (relationOf n g)) (transitiveBelow n (relationOf n g)) e
+    where
+      go : (a b c : Bool) → cond a (cond b (cond c Preorder (Refused NotTransitive)) (Refused NotReflexive)) (Refused Grid) ≡ Preorder → (a ≡ true) × (b ≡ true) × (c ≡ true)
+      go true true true p = (refl, refl, refl)
+      go true true false p = let z : _≡_ {A = ℕ} 0 1 = cc in absurd (zero-not-one z)
+      go true false c p = let z : _≡_ {A = ℕ} 0 1 = cc in absurd (zero-not-one z)
+      go false b c p = let z : _≡_ {A = ℕ} 0 1 = cc in absurd (zero-not-one z)
+
+  pub checked-matrix : checkPreorder n g ≡ Preorder → Matrix n g
+  checked-matrix e = matrix-test n g (passed e .0)
+
+  pub checked-reflexive : checkPreorder n g ≡ Preorder → (L : Lts) → L .states ≡ n → T (reflexive L (relationOf n g))
+  unfolding reflexive allStates reflexiveBelow
+  checked-reflexive e L s = true-T _ (ap (λ (k : ℕ). allBelow k (λ p. relationOf n g p p)) s ∙ passed e .1)
+
+  pub checked-transitive : checkPreorder n g ≡ Preorder → (L : Lts) → L .states ≡ n → T (transitive L (relationOf n g))
+  unfolding transitive allStates transitiveBelow transitiveAt transitivePair
+  checked-transitive e L s = true-T _ (ap (λ (k : ℕ). allBelow k (λ p. allBelow k (λ q. allBelow k (λ r. relationOf n g p q && relationOf n g q r ⇒ relationOf n g p r)))) s ∙ passed e .2)

@@ -1,20 +1,21 @@
--- Laws of grids: a grid and its relation determine each other below n, and what a grid is once a row has been written. Assumes nothing.
+-- Laws of matrices: a matrix and its relation determine each other below n, and what a matrix is once a row has been written. Assumes nothing.
 use mathlib.Core.Path.{_≡_, refl, sym, ap, ap₂, _∙_, subst, subst⁻¹}
-use mathlib.Core.Bool.{Bool, true, false, not, _&&_, _||_, cond}
-use mathlib.Core.List.{List, [], _∷_, _++_, append-assoc, append-nil}
-use mathlib.Core.Logic.{_⊎_, inl, inr, ⊎-elim}
+use mathlib.Core.Bool.{Bool, true, false, not, _&&_, cond}
+use mathlib.Core.List.{List, _++_, append-assoc, append-nil}
+use mathlib.Core.Logic.{⊎-elim}
 use Prim.Native.Nat.{ℕ, zero, suc, _+_, _-_, _*_, _/_, _%_, _^_, _≤_, _<_}
-use native.Mathlib.Nat.{mod-lt, div-add-mod', div-lt-iff-lt-mul, mul-comm, add-mul, one-mul, not-suc-le-zero, mul-zero, zero-mul, suc-mul, mul-le-mul-right, eq-or-lt-of-le, le-trans, mul-le-mul-left}
+use native.Mathlib.Nat.{mod-lt, div-add-mod', div-lt-iff-lt-mul, add-mul, one-mul, not-suc-le-zero, mul-zero, zero-mul, suc-mul, mul-le-mul-right, eq-or-lt-of-le, le-trans, mul-le-mul-left}
 use native.Mathlib.Omega.{arith}
 use lib.Dec.{ltb, eqb}
 use lib.Arith.{digits-div, digits-mod, digits-lt}
 use lib.ListN.{length, getD, take, drop, length-append, List·getD-append, length-drop, drop-of-length-le}
 use lib.Seq.{getD-drop, getD-take, getD-append-add, length-take-le, take-at, drop-at, drop-drop, take-all}
 use borrow.Rule.Slice.PartMut.{putMid}
-use borrow.Author.Tests.{lt-ltb, le-ltb, eq-eqb, ne-eqb}
-use Rattle.relation.specs.Matrix.{bit, inRow, wordAt, rowOf, rowWords, statesBelow, inMatrix, relationOf, matrixWord, matrixOf, Matrix, setRow, rowsOf}
+use borrow.Author.Tests.{eqb-true, lt-ltb, le-ltb, eq-eqb, ne-eqb}
+use Rattle.relation.specs.Matrix.{bit, inRow, wordAt, rowOf, rowWords, statesBelow, inMatrix, relationOf, matrixWord, matrixOf, Matrix, setRow, rowsOf, Row, withoutStates}
 use Rattle.lts.specs.Bounded.{listBelow}
-use Rattle.relation.proofs.Rows.{lt-or-ge, length-listBelow, getD-listBelow, list-ext, listBelow-cong, listBelow-add, word-at, bit-wordAt, wordAt-lt}
+use Rattle.relation.proofs.Rows.{word-at, bit-wordAt, wordAt-lt}
+use Rattle.relation.proofs.Bounded.{lt-or-ge, length-listBelow, getD-listBelow, list-ext, listBelow-cong, listBelow-add}
 
 -- each element is a word
 abbrev pub Words : List ℕ → Type 0
@@ -24,7 +25,7 @@ pub inMatrix-at : (w : ℕ) (g : List ℕ) (p c i : ℕ) → i < 64 → inMatrix
 unfolding inMatrix
 inMatrix-at w g p c i h = rw (digits-div c h, digits-mod c h)
 
--- row p of a grid
+-- row p of a matrix
 pub inRow-drop : (w : ℕ) (g : List ℕ) (p q : ℕ) → inRow (drop (p * w) g) q ≡ inMatrix w g p q
 unfolding inRow inMatrix
 inRow-drop w g p q = rw getD-drop
@@ -38,14 +39,14 @@ state-word n h = omega (arith, h)
 pub word-below : (n : ℕ) {p c : ℕ} → p < n → c < rowWords n → p * rowWords n + c < n * rowWords n
 word-below n hp hc = digits-lt hp hc
 
--- a grid has at most 1,024 words
+-- a matrix has at most 1,024 words
 pub matrix-small : (n : ℕ) → n ≤ 256 → n * rowWords n ≤ 1024
 matrix-small n h = le-trans (mul-le-mul-left n words) (omega arith)
   where
     words : rowWords n ≤ 4
     words = omega arith
 
--- ---- the grid of a relation
+-- ---- the matrix of a relation
 
 pub length-matrixOf : (n : ℕ) (R : ℕ → ℕ → Bool) → length (matrixOf n R) ≡ n * rowWords n
 unfolding matrixOf
@@ -57,7 +58,7 @@ getD-matrixOf n R p c hp hc =
     getD-listBelow (n * rowWords n) _ (p * rowWords n + c) (word-below n hp hc)
     ∙ ap₂ (λ (a b : ℕ). wordAt (statesBelow n (R a)) b) (digits-div p hc) (digits-mod p hc)
 
--- the relation of a grid of R is R on the states, and empty beyond them
+-- the relation of a matrix of R is R on the states, and empty beyond them
 pub relation-states : (n : ℕ) (R : ℕ → ℕ → Bool) (p q : ℕ) → p < n → q < rowWords n * 64 → relationOf n (matrixOf n R) p q ≡ statesBelow n (R p) q
 unfolding inMatrix
 relation-states n R p q hp hq =
@@ -87,7 +88,11 @@ pub words-matrix : (n : ℕ) (R : ℕ → ℕ → Bool) → Words (matrixOf n R)
 unfolding matrixOf
 words-matrix n R = words-list (n * rowWords n) _ (λ j. wordAt-lt _ _)
 
--- ---- a list of words whose bits are R's is the grid of R
+pub width-positive : (n w : ℕ) {j : ℕ} → j < n * w → 0 < w
+width-positive n zero {j} h = absurd (not-suc-le-zero (subst (λ (k : ℕ). j < k) (mul-zero n) h))
+width-positive n (suc w) h = omega arith
+
+-- ---- a list of words whose bits are R's is the matrix of R
 
 pub matrix-ext : (n : ℕ) (R : ℕ → ℕ → Bool) (g : List ℕ) → length g ≡ n * rowWords n → Words g
     → ((p q : ℕ) → p < n → q < rowWords n * 64 → relationOf n g p q ≡ statesBelow n (R p) q) → g ≡ matrixOf n R
@@ -96,17 +101,13 @@ matrix-ext n R g long words same = list-ext (n * rowWords n) _ g long word
   where
     word : (j : ℕ) → j < n * rowWords n → getD g j 0 ≡ wordAt (statesBelow n (R (j / rowWords n))) (j % rowWords n)
     word j h =
-        let pos : 0 < rowWords n = positive n (rowWords n) h in
+        let pos : 0 < rowWords n = width-positive n (rowWords n) h in
         let w = rowWords n in
         let row : j / w < n = div-lt-iff-lt-mul pos .1 h in
         let col : j % w < w = mod-lt j pos in
         word-at (statesBelow n (R (j / w))) (j % w) (words j) (λ i l.
         ap (λ (k : ℕ). bit (getD g k 0) i) (sym (div-add-mod' j w)) ∙ sym (inMatrix-at w g (j / w) (j % w) i l)
         ∙ same (j / w) (j % w * 64 + i) row (digits-lt col l))
-      where
-        positive : (n w : ℕ) → j < n * w → 0 < w
-        positive n zero h = absurd (not-suc-le-zero (subst (λ (k : ℕ). j < k) (mul-zero n) h))
-        positive n (suc w) h = omega arith
 
 pub matrix-relation : (n : ℕ) (g : List ℕ) → Matrix n g → Words g → g ≡ matrixOf n (relationOf n g)
 matrix-relation n g ok words =
@@ -118,7 +119,7 @@ matrixOf-cong n R S same =
     matrix-ext n S (matrixOf n R) (length-matrixOf n R) (words-matrix n R) (λ p q hp hq. relation-states n R p q hp hq
     ∙ ⊎-elim (λ (h : q < n). ap (λ (b : Bool). ltb q n && b) (same p q hp h)) (λ (h : n ≤ q). states-out n (R p) q h ∙ sym (states-out n (S p) q h)) (lt-or-ge q n))
 
--- is-matrix grids with the same pairs are the same
+-- matrices with the same pairs are the same
 pub matrix-same : (n : ℕ) (g h : List ℕ) → Matrix n g → Words g → Matrix n h → Words h
     → ((p q : ℕ) → p < n → q < n → relationOf n g p q ≡ relationOf n h p q) → g ≡ h
 matrix-same n g h okg wg okh wh same = matrix-relation n g okg wg ∙ matrixOf-cong n _ _ same ∙ sym (matrix-relation n h okh wh)
@@ -133,7 +134,7 @@ tail-back a xs ys =
     ap (λ (l : List ℕ). take a xs ++ l)
     (ap (λ (l : List ℕ). ys ++ l) (drop-of-length-le (drop a xs) {i = length xs - a} (omega (arith, length-drop a xs))) ∙ append-nil ys)
 
--- row p of the grid, as a part that starts at its first word
+-- row p of the matrix, as a part that starts at its first word
 pub inRow-part : (n p : ℕ) (g : List ℕ) (q : ℕ) → inRow (take (length g - p * rowWords n) (drop (p * rowWords n) g)) q ≡ relationOf n g p q
 inRow-part n p g q = ap (λ (l : List ℕ). inRow l q) (tail-part (p * rowWords n) g) ∙ inRow-drop (rowWords n) g p q
 
@@ -151,7 +152,7 @@ row-long n {p} g h long = omega (arith, row-fits n g h long, length-drop (p * ro
 pub pair-word : (n : ℕ) {p q : ℕ} (g : List ℕ) → p < n → q < n → length g ≡ n * rowWords n → p * rowWords n + q / 64 < length g
 pair-word n g hp hq long = omega (arith, word-below n hp (state-word n hq))
 
--- ---- a grid that is written row by row: after p rows it is `rowsTo n R p ++ drop (p * w) d`
+-- ---- a matrix that is written row by row: after p rows it is `rowsTo n R p ++ drop (p * w) d`
 
 module _ (n : ℕ) (R : ℕ → ℕ → Bool) where
   pub rowsTo : ℕ → List ℕ
@@ -168,7 +169,7 @@ module _ (n : ℕ) (R : ℕ → ℕ → Bool) where
       ∙ listBelow-add (p * rowWords n) (rowWords n) _
       ∙ ap (λ (l : List ℕ). rowsTo p ++ l) (listBelow-cong (rowWords n) _ _ (λ c h. ap₂ (λ (a b : ℕ). wordAt (statesBelow n (R a)) b) (digits-div p h) (digits-mod p h)))
 
-  -- row p was lent from its first word to the grid's end, and came back with its words written
+  -- row p was lent from its first word to the matrix's end, and came back with its words written
   pub rows-more : (d g ys : List ℕ) (p : ℕ) → g ≡ rowsTo p ++ drop (p * rowWords n) d
       → ys ≡ rowOf (rowWords n) (statesBelow n (R p)) ++ drop (rowWords n) (take (length g - p * rowWords n) (drop (p * rowWords n) g))
       → putMid (p * rowWords n) (length g - p * rowWords n) g ys ≡ rowsTo (p + 1) ++ drop ((p + 1) * rowWords n) d
@@ -190,7 +191,7 @@ module _ (n : ℕ) (R : ℕ → ℕ → Bool) where
       now ∙ ap (λ (k : ℕ). rowsTo k ++ drop (k * rowWords n) d) end
       ∙ ap (λ (l : List ℕ). rowsTo n ++ l) (drop-of-length-le d {i = n * rowWords n} (omega (arith, long))) ∙ append-nil (rowsTo n)
 
--- ---- a grid with one row written anew
+-- ---- a matrix with one row written anew
 
 module _ (a w : ℕ) (g : List ℕ) (S : ℕ → Bool) (room : a + w ≤ length g) where
   pub put : List ℕ
@@ -255,7 +256,7 @@ module _ (n p : ℕ) (g : List ℕ) (S : ℕ → Bool) (ok : Matrix n g) (words 
       (eq-or-lt-of-le h))
       (lt-or-ge t p)
 
-  -- row p was lent from its first word to the grid's end, and came back with its words written
+  -- row p was lent from its first word to the matrix's end, and came back with its words written
   pub row-written : (ys : List ℕ) → ys ≡ rowOf (rowWords n) S ++ drop (rowWords n) (take (length g - p * rowWords n) (drop (p * rowWords n) g))
       → putMid (p * rowWords n) (length g - p * rowWords n) g ys ≡ matrixOf n (setRow p S (relationOf n g))
   unfolding put
@@ -271,7 +272,39 @@ module _ (n p : ℕ) (g : List ℕ) (S : ℕ → Bool) (ok : Matrix n g) (words 
       none true e f = e
       none false e f = f
 
--- ---- a grid that is changed row by row: after p rows its relation is `rowsOf p N R`
+-- row p was lent so, and came back as what β makes of it and of the set M
+pub row-zipped : (n p : ℕ) (g : List ℕ) (β : Bool → Bool → Bool) (M : ℕ → Bool) → ((b : Bool) → β false b ≡ false) → Matrix n g → Words g → p < n → (ys : List ℕ)
+    → ys ≡ rowOf (rowWords n) (λ q. β (inRow (take (length g - p * rowWords n) (drop (p * rowWords n) g)) q) (M q))
+    ++ drop (rowWords n) (take (length g - p * rowWords n) (drop (p * rowWords n) g))
+    → putMid (p * rowWords n) (length g - p * rowWords n) g ys ≡ matrixOf n (setRow p (λ q. β (relationOf n g p q) (M q)) (relationOf n g))
+row-zipped n p g β M none ok words hp ys last =
+    row-written n p g (λ q. β (inRow (take (length g - p * rowWords n) (drop (p * rowWords n) g)) q) (M q)) ok words hp
+    (λ q h l. ap (λ (b : Bool). β b (M q)) (inRow-part n p g q ∙ ok .clear p q hp h l) ∙ none (M q)) ys last
+    ∙ matrixOf-cong n _ _ (λ t q ht hq. ap (λ (b : Bool). cond (eqb t p) (β b (M q)) (relationOf n g t q)) (inRow-part n p g q))
+
+pub without-row : (p : ℕ) (M : ℕ → Bool) (R : ℕ → ℕ → Bool) (t q : ℕ) → setRow p (λ q. R p q && not (M q)) R t q ≡ withoutStates p M R t q
+without-row p M R t q = go (eqb t p) refl
+  where
+    keep : (b : Bool) → b ≡ b && true
+    keep true = refl
+    keep false = refl
+
+    go : (b : Bool) → eqb t p ≡ b → cond b (R p q && not (M q)) (R t q) ≡ R t q && not (b && M q)
+    go true e = ap (λ (k : ℕ). R k q && not (M q)) (sym (eqb-true t p e))
+    go false e = keep (R t q)
+
+-- the row p that was set, and any other
+pub set-here : (p : ℕ) (S : ℕ → Bool) (R : ℕ → ℕ → Bool) (q : ℕ) → setRow p S R p q ≡ S q
+set-here p S R q = ap (λ (b : Bool). cond b (S q) (R p q)) (eq-eqb p p refl)
+
+pub set-other : (p : ℕ) (S : ℕ → Bool) (R : ℕ → ℕ → Bool) (t q : ℕ) → (t ≡ p → ⊥) → setRow p S R t q ≡ R t q
+set-other p S R t q ne = ap (λ (b : Bool). cond b (S q) (R t q)) (ne-eqb t p ne)
+
+-- row p of a matrix, as a set of states below n
+pub row-of : (n p : ℕ) (g : List ℕ) → Matrix n g → p < n → Row n (drop (p * rowWords n) g)
+row-of n p g ok hp = record { long = row-long n g hp (ok .long); clear = λ q h l. inRow-drop (rowWords n) g p q ∙ ok .clear p q hp h l }
+
+-- ---- a matrix that is changed row by row: after p rows its relation is `rowsOf p N R`
 
 pub relation-of : (n : ℕ) (R : ℕ → ℕ → Bool) {g : List ℕ} → g ≡ matrixOf n R → (p q : ℕ) → p < n → q < n → relationOf n g p q ≡ R p q
 relation-of n R e p q hp hq = ap (λ (l : List ℕ). relationOf n l p q) e ∙ relation-matrix n R p q hp hq

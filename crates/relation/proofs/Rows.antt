@@ -1,80 +1,21 @@
 -- Laws of lists given by a function, and of rows of words. Assumes nothing.
-use mathlib.Core.Path.{_≡_, refl, sym, ap, ap₂, _∙_, subst}
-use mathlib.Core.Bool.{Bool, true, false, not, _&&_, _||_}
+use mathlib.Core.Path.{_≡_, refl, sym, ap, ap₂, _∙_}
+use mathlib.Core.Bool.{Bool, true, false, not, _&&_, _||_, xor}
 use mathlib.Core.Logic.{_⊎_, inl, inr, ⊎-elim}
-use mathlib.Core.List.{List, [], _∷_, _++_}
-use Prim.Native.Nat.{ℕ, zero, suc, _+_, _-_, _*_, _/_, _%_, _^_, _≤_, _<_, zero-le, suc-le-suc}
-use native.Mathlib.Nat.{not-suc-le-zero, le-of-suc-le-suc, zero-lt-suc, zero-add, suc-add, mod-lt, eq-or-lt-of-le}
-use native.Mathlib.Numerals.{add-one}
+use mathlib.Core.List.{List, _++_}
+use Prim.Native.Nat.{ℕ, _+_, _-_, _*_, _/_, _%_, _^_, _≤_, _<_}
+use native.Mathlib.Nat.{div-add-mod', mod-lt, eq-or-lt-of-le}
 use native.Mathlib.Omega.{arith}
-use lib.Bits.{bitAnd, bitOr, and-lt, or-lt, and-le-l}
+use lib.Bits.{bitAnd, bitOr, bitXor, and-lt, or-lt, xor-lt, and-le-l}
 use lib.Arith.{digits-div, digits-mod}
-use lib.ListN.{length, getD, set, take, drop, length-append, length-drop, length-set}
-use lib.Seq.{ext-getD, getD-set-same, getD-set-other}
+use lib.ListN.{length, List·getD-append, getD, set, drop, length-set}
+use lib.Seq.{getD-drop, getD-append-add, getD-set-same, getD-set-other}
 use lib.Dec.{eqb}
 use lib.Pow.{pow-pos}
 use borrow.Author.Tests.{eq-eqb, ne-eqb}
-use Rattle.relation.specs.Matrix.{bit, wordOf, inRow, wordAt, rowOf}
-use Rattle.lts.specs.Bounded.{listBelow}
-use Rattle.relation.proofs.Bits.{word-ext, wordOf-lt, bit-wordOf, bit-and, bit-or, bit-not, bit-pow, one-shl}
-
-pub lt-or-ge : (a b : ℕ) → (a < b) ⊎ (b ≤ a)
-lt-or-ge a zero = inr zero-le
-lt-or-ge zero (suc b) = inl (suc-le-suc zero-le)
-lt-or-ge (suc a) (suc b) = ⊎-elim (λ h. inl (suc-le-suc h)) (λ h. inr (suc-le-suc h)) (lt-or-ge a b)
-
--- ---- a list given by a function
-
-pub length-listBelow : (k : ℕ) (f : ℕ → ℕ) → length (listBelow k f) ≡ k
-unfolding listBelow
-length-listBelow zero f = refl
-length-listBelow (suc k) f = ap suc (length-listBelow k (λ i. f (suc i)))
-
-pub getD-listBelow : (k : ℕ) (f : ℕ → ℕ) (i : ℕ) → i < k → getD (listBelow k f) i 0 ≡ f i
-unfolding listBelow
-getD-listBelow zero f i h = absurd (not-suc-le-zero h)
-getD-listBelow (suc k) f zero h = refl
-getD-listBelow (suc k) f (suc i) h = getD-listBelow k (λ i. f (suc i)) i (le-of-suc-le-suc h)
-
-pub list-ext : (k : ℕ) (f : ℕ → ℕ) (l : List ℕ) → length l ≡ k → ((i : ℕ) → i < k → getD l i 0 ≡ f i) → l ≡ listBelow k f
-list-ext k f l e same =
-    ext-getD 0 l (listBelow k f) (e ∙ sym (length-listBelow k f)) (λ i h. same i (omega (arith, e, h)) ∙ sym (getD-listBelow k f i (omega (arith, e, h))))
-
-pub listBelow-cong : (k : ℕ) (f g : ℕ → ℕ) → ((i : ℕ) → i < k → f i ≡ g i) → listBelow k f ≡ listBelow k g
-listBelow-cong k f g same = list-ext k g (listBelow k f) (length-listBelow k f) (λ i h. getD-listBelow k f i h ∙ same i h)
-
-pub listBelow-add : (a b : ℕ) (f : ℕ → ℕ) → listBelow (a + b) f ≡ listBelow a f ++ listBelow b (λ i. f (a + i))
-unfolding listBelow
-listBelow-add zero b f = ap (λ (k : ℕ). listBelow k f) (zero-add b) ∙ listBelow-cong b f (λ i. f (0 + i)) (λ i h. ap f (sym (zero-add i)))
-listBelow-add (suc a) b f =
-    ap (λ (k : ℕ). listBelow k f) (suc-add a b)
-    ∙ ap (λ (t : List ℕ). f 0 ∷ t)
-    (listBelow-add a b (λ i. f (suc i)) ∙ ap (λ (t : List ℕ). listBelow a (λ i. f (suc i)) ++ t) (listBelow-cong b _ _ (λ i h. ap f (sym (suc-add a i)))))
-
--- ---- a loop that fills a list from the front, one store a turn: after n turns it is `listBelow n f ++ drop n d`
-
-pub length-fill : (n : ℕ) (f : ℕ → ℕ) (d : List ℕ) → n ≤ length d → length (listBelow n f ++ drop n d) ≡ length d
-length-fill n f d h = omega (arith, length-append (listBelow n f) (drop n d), length-listBelow n f, length-drop n d)
-
--- what is not yet filled is as it was
-pub getD-fill : (n : ℕ) (f : ℕ → ℕ) (d : List ℕ) → getD (listBelow n f ++ drop n d) n 0 ≡ getD d n 0
-unfolding listBelow
-getD-fill zero f d = refl
-getD-fill (suc n) f [] = beyond n (λ i. f (suc i))
-  where
-    beyond : (n : ℕ) (f : ℕ → ℕ) → getD (listBelow n f ++ []) n 0 ≡ 0
-    beyond zero f = refl
-    beyond (suc n) f = beyond n (λ i. f (suc i))
-getD-fill (suc n) f (x ∷ d) = getD-fill n (λ i. f (suc i)) d
-
-fill-suc : (n : ℕ) (f : ℕ → ℕ) (d : List ℕ) → n < length d → set (listBelow n f ++ drop n d) n (f n) ≡ listBelow (suc n) f ++ drop (suc n) d
-unfolding listBelow
-fill-suc n f [] l = absurd (not-suc-le-zero l)
-fill-suc zero f (x ∷ d) l = refl
-fill-suc (suc n) f (x ∷ d) l = ap (λ (t : List ℕ). f 0 ∷ t) (fill-suc n (λ i. f (suc i)) d (le-of-suc-le-suc l))
-
-pub fill-more : (n : ℕ) (f : ℕ → ℕ) (d : List ℕ) {v : ℕ} → n < length d → v ≡ f n → set (listBelow n f ++ drop n d) n v ≡ listBelow (n + 1) f ++ drop (n + 1) d
-fill-more n f d l e = rw (e, add-one) (fill-suc n f d l)
+use Rattle.relation.specs.Matrix.{bit, inRow, wordAt, rowOf}
+use Rattle.relation.proofs.Bits.{word-ext, wordOf-lt, bit-wordOf, bit-and, bit-or, bit-xor, bit-not, bit-pow, one-shl}
+use Rattle.relation.proofs.Bounded.{listBelow-cong, getD-listBelow, length-listBelow, fill-more, getD-fill, list-ext, lt-or-ge}
 
 -- ---- a row of words
 
@@ -94,6 +35,33 @@ bit-wordAt S c i h = bit-wordOf 64 (λ i. S (c * 64 + i)) i h
 pub wordAt-lt : (S : ℕ → Bool) (c : ℕ) → wordAt S c < 2 ^ 64
 unfolding wordAt
 wordAt-lt S c = wordOf-lt 64 (λ i. S (c * 64 + i))
+
+-- the members of the words of a set, and of a row with its first words written
+pub inRow-of : (k : ℕ) (S : ℕ → Bool) (q : ℕ) → q < k * 64 → inRow (rowOf k S) q ≡ S q
+unfolding inRow
+inRow-of k S q h =
+    ap (λ (x : ℕ). bit x (q % 64)) (getD-listBelow k (wordAt S) (q / 64) (omega arith)) ∙ bit-wordAt S (q / 64) (q % 64) (mod-lt q (omega arith)) ∙ ap S (div-add-mod' q 64)
+
+pub inRow-written : (k : ℕ) (S : ℕ → Bool) (rest : List ℕ) (q : ℕ) → q < k * 64 → inRow (rowOf k S ++ rest) q ≡ S q
+unfolding inRow
+inRow-written k S rest q h =
+    ap (λ (x : ℕ). bit x (q % 64)) (List·getD-append (rowOf k S) rest 0 (q / 64) (omega (arith, length-listBelow k (wordAt S)))) ∙ inRow-of k S q h
+
+pub inRow-rest : (k : ℕ) (S : ℕ → Bool) (d : List ℕ) (q : ℕ) → k * 64 ≤ q → k ≤ length d → inRow (rowOf k S ++ drop k d) q ≡ inRow d q
+unfolding inRow
+inRow-rest k S d q h l =
+    let split : q / 64 ≡ length (rowOf k S) + (q / 64 - k) = omega (arith, length-listBelow k (wordAt S)) in
+    let back : k + (q / 64 - k) ≡ q / 64 = omega arith in
+    ap (λ (x : ℕ). bit x (q % 64))
+    (ap (λ (j : ℕ). getD (rowOf k S ++ drop k d) j 0) split ∙ getD-append-add (rowOf k S) (drop k d) (q / 64 - k) 0 ∙ getD-drop k d (q / 64 - k) 0 ∙ ap (λ (j : ℕ). getD d j 0) back)
+
+-- words of the same members are the same
+pub rowOf-cong : (k : ℕ) (A B : ℕ → Bool) → ((q : ℕ) → q < k * 64 → A q ≡ B q) → rowOf k A ≡ rowOf k B
+rowOf-cong k A B e = listBelow-cong k _ _ (λ c h. word-at B c (wordAt-lt A c) (λ i l. bit-wordAt A c i l ∙ e (c * 64 + i) (omega arith)))
+
+pub row-ext : (k : ℕ) (S : ℕ → Bool) (row : List ℕ) → length row ≡ k → ((j : ℕ) → getD row j 0 < 2 ^ 64) → ((q : ℕ) → q < k * 64 → inRow row q ≡ S q) → row ≡ rowOf k S
+row-ext k S row long words same =
+    list-ext k (wordAt S) row long (λ c h. word-at S c (words c) (λ i l. sym (inRow-at row c i l) ∙ same (c * 64 + i) (omega arith)))
 
 -- ---- a loop that fills a row word by word: after c turns the row is `rowOf c S ++ drop c d`
 
@@ -131,6 +99,13 @@ and-bitwise = record { small = λ x y hx hy. and-lt 64 x y hx hy; bits = λ x y 
 
 pub or-bitwise : Bitwise bitOr _||_
 or-bitwise = record { small = λ x y hx hy. or-lt 64 x y hx hy; bits = λ x y i hx hy l. bit-or x y i }
+
+pub xor-bitwise : Bitwise bitXor xor
+xor-bitwise = record { small = λ x y hx hy. xor-lt 64 x y hx hy; bits = λ x y i hx hy l. bit-xor x y i }
+
+-- the first operand
+pub left-bitwise : Bitwise (λ x y. x) (λ a b. a)
+left-bitwise = record { small = λ x y hx hy. hx; bits = λ x y i hx hy l. refl }
 
 pub minus-bitwise : Bitwise (λ x y. bitAnd x ((2 ^ 64 - 1) - y)) (λ a b. a && not b)
 minus-bitwise = record {

@@ -1,5 +1,5 @@
 -- Tests of matrices and of relations on the states below n (document 01, "Grids", and refusals 8 to 10).
-use mathlib.Core.Bool.{Bool, not, _&&_, _||_}
+use mathlib.Core.Bool.{Bool, cond, not, _&&_, _||_}
 use mathlib.Core.List.{List}
 use Prim.Native.Nat.{ℕ, _*_}
 use lib.Dec.{eqb, ltb}
@@ -7,18 +7,28 @@ use lib.ListN.{length}
 use Rattle.lts.specs.Bounded.{_⇒_, allBelow}
 use Rattle.lts.specs.System.{Set, Rel}
 use Rattle.lts.specs.Table.{markedSet}
+use Rattle.lts.specs.declared.Refusal.{Refusal}
+use Rattle.lts.specs.declared.Refusal.the-variants.{Grid, NotReflexive, NotTransitive}
+use Rattle.relation.specs.declared.Checked.{Checked}
+use Rattle.relation.specs.declared.Checked.the-variants.{Preorder, Refused}
 use Rattle.relation.specs.Matrix.{rowWords, relationOf}
 
 -- every member of A below k is in B
 unfoldable pub includedBelow : ℕ → Set → Set → Bool
 includedBelow k A B = allBelow k (λ q. A q ⇒ B q)
 
+-- every pair of states in R is in S
+unfoldable pub withinBelow : ℕ → Rel → Rel → Bool
+withinBelow n R S = allBelow n (λ p. allBelow n (λ q. R p q ⇒ S p q))
+
 unfoldable pub reflexiveBelow : ℕ → Rel → Bool
 reflexiveBelow n R = allBelow n (λ p. R p p)
 
--- the row of each state that p is related to is included in p's row
-abbrev pub transitiveAt : ℕ → Rel → ℕ → Bool
-transitiveAt n R p = allBelow n (λ q. R p q ⇒ includedBelow n (R q) (R p))
+unfoldable pub transitivePair : ℕ → Rel → ℕ → ℕ → Bool
+transitivePair n R p q = allBelow n (λ r. R p q && R q r ⇒ R p r)
+
+unfoldable pub transitiveAt : ℕ → Rel → ℕ → Bool
+transitiveAt n R p = allBelow n (transitivePair n R p)
 
 unfoldable pub transitiveBelow : ℕ → Rel → Bool
 transitiveBelow n R = allBelow n (transitiveAt n R)
@@ -31,10 +41,17 @@ clearAt n g p = allBelow (rowWords n * 64) (λ q. ltb q n || not (relationOf n g
 unfoldable pub isMatrix : ℕ → List ℕ → Bool
 isMatrix n g = eqb (length g) (n * rowWords n) && allBelow n (clearAt n g)
 
+-- The checks of a preorder (a start) in the order of document 01's table: 8, 9, 10.
+abbrev pub unless : Bool → Refusal → Checked → Checked
+unless test refusal rest = cond test rest (Refused refusal)
+
+unfoldable pub checkPreorder : ℕ → List ℕ → Checked
+checkPreorder n g =
+    unless (isMatrix n g) Grid (
+    unless (reflexiveBelow n (relationOf n g)) NotReflexive (
+    unless (transitiveBelow n (relationOf n g)) NotTransitive
+    Preorder))
+
 -- what a state is related to by the termination preorder, by whether it is terminating itself
 abbrev pub terminationRow : ℕ → List ℕ → Bool → Set
 terminationRow n marks ended q = ended ⇒ markedSet n marks q
-
--- the termination preorder (the end start) of the states that have the mark
-abbrev pub terminationOf : ℕ → List ℕ → Rel
-terminationOf n marks p = terminationRow n marks (markedSet n marks p)

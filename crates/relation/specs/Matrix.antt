@@ -1,6 +1,6 @@
 -- Sets of states as rows of 64-bit words, and relations as bit matrices of such rows (document 01, "Grids").
 use mathlib.Core.Path.{_≡_}
-use mathlib.Core.Bool.{Bool, false, cond, not, _&&_, _||_}
+use mathlib.Core.Bool.{Bool, false, cond, not, _&&_}
 use mathlib.Core.List.{List}
 use Prim.Native.Nat.{ℕ, zero, suc, _+_, _*_, _/_, _%_, _^_, _<_, _≤_}
 use lib.Dec.{eqb, ltb}
@@ -59,6 +59,11 @@ matrixOf n R = listBelow (n * rowWords n) (matrixWord n R)
 pub record Matrix (n : ℕ) (g : List ℕ) : Type 0 where
   pub long : length g ≡ n * rowWords n
   pub clear : (p q : ℕ) → p < n → n ≤ q → q < rowWords n * 64 → relationOf n g p q ≡ false
+
+-- the list holds a set of states below n in its first w words
+pub record Row (n : ℕ) (row : List ℕ) : Type 0 where
+  pub long : rowWords n ≤ length row
+  pub clear : (q : ℕ) → n ≤ q → q < rowWords n * 64 → inRow row q ≡ false
 
 -- how many pairs of states R has
 unfoldable pub pairCount : ℕ → Rel → ℕ

@@ -1,21 +1,16 @@
 // Relations on states as bit matrices over 64-bit words (document 01, "Grids"), and sets of states as rows of such words.
 ghost use mathlib.Core.Path.{_≡_};
-ghost use mathlib.Core.Bool.{not, _&&_, _||_};
+ghost use mathlib.Core.Bool.{true, false, not, _&&_, _||_, xor};
 ghost use mathlib.Core.List.{_++_};
-ghost use Prim.Native.Nat.{_+_, _*_, _/_, _%_, _<_, _≤_};
+ghost use Prim.Native.Nat.{ℕ, _+_, _*_, _/_, _%_, _<_, _≤_};
 ghost use lib.Dec.{eqb};
 ghost use lib.ListN.{length, drop};
-ghost use Rattle.lts.specs.Bounded.{_⇒_, lowest};
-ghost use Rattle.relation.specs.Matrix.{inRow, inMatrix, rowOf, rowWords, matrixOf, relationOf, Matrix, pairCount, withoutStates, withoutProduct};
-ghost use Rattle.relation.specs.Check.{includedBelow, reflexiveBelow, transitiveAt, transitiveBelow, clearAt, isMatrix};
+ghost use Rattle.lts.specs.Bounded.{_⇒_, anyBelow, lowest};
+ghost use Rattle.lts.specs.Table.{markedSet};
+ghost use Rattle.relation.specs.Matrix.{digit, inRow, inMatrix, wordAt, rowOf, rowWords, statesBelow, matrixOf, relationOf, Matrix, Row, pairCount, setRow, withoutStates, withoutProduct};
+ghost use Rattle.relation.specs.Check.{includedBelow, withinBelow, reflexiveBelow, transitivePair, transitiveAt, transitiveBelow, clearAt, isMatrix, checkPreorder, terminationRow};
 
-// Whether the pair (p, q) is in the matrix.
-pub fn has(grid: &[u64], w: usize, p: usize, q: usize) -> bool
-    requires { ⌜ p * w + q / 64 < length (now grid) ⌝ }
-    ensures { λ r. ⌜ r ≡ inMatrix w (now (grid .entry)) p q ⌝ }
-{
-    (grid[p * w + q / 64] >> (q % 64)) % 2 == 1
-}
+// Rows: a set of states in the first words of a slice.
 
 // Whether state q is in the row.
 pub fn contains(row: &[u64], q: usize) -> bool
@@ -23,42 +18,6 @@ pub fn contains(row: &[u64], q: usize) -> bool
     ensures { λ r. ⌜ r ≡ inRow (now (row .entry)) q ⌝ }
 {
     (row[q / 64] >> (q % 64)) % 2 == 1
-}
-
-// Takes the states of `mask` out of the row's first k words.
-pub fn row_minus(row: &mut [u64], mask: &[u64], k: usize)
-    requires { ⌜ (k ≤ length (now row)) × (k ≤ length (now mask)) ⌝ }
-    ensures { λ _. ⌜ now (row .exit) ≡ rowOf k (λ q. inRow (now (row .entry)) q && not (inRow (now (mask .entry)) q)) ++ drop k (now (row .entry)) ⌝ }
-{
-    let mut c = 0;
-    while c < k {
-        row[c] = row[c] & !mask[c];
-        c += 1;
-    }
-}
-
-// Takes the states of `mask` out of row p.
-pub fn remove_states(grid: &mut [u64], n: usize, p: usize, mask: &[u64])
-    requires { ⌜ Matrix n (now grid) × (n ≤ 256) × (p < n) × (rowWords n ≤ length (now mask)) ⌝ }
-    ensures { λ _. ⌜ now (grid .exit) ≡ matrixOf n (withoutStates p (inRow (now (mask .entry))) (relationOf n (now (grid .entry)))) ⌝ }
-{
-    let w = (n + 63) / 64;
-    let at = p * w;
-    row_minus(&mut grid[at..], mask, w);
-}
-
-// How many pairs the matrix has: the ones of its words, summed.
-pub fn count_pairs(grid: &[u64], n: usize) -> usize
-    requires { ⌜ Matrix n (now grid) × (n ≤ 256) ⌝ }
-    ensures { λ r. ⌜ r ≡ pairCount n (relationOf n (now (grid .entry))) ⌝ }
-{
-    let mut total: usize = 0;
-    let mut j = 0;
-    while j < grid.len() {
-        total += u64::count_ones(grid[j]) as usize;
-        j += 1;
-    }
-    total
 }
 
 // The lowest state in the row's first k words, or 64 * k where they have none.
@@ -77,6 +36,273 @@ pub fn lowest_state(row: &[u64], k: usize) -> usize
     k * 64
 }
 
+// Puts state q into a row.
+pub fn insert(row: &mut [u64], q: usize)
+    requires { ⌜ q / 64 < length (now row) ⌝ }
+    ensures { λ _. ⌜ now (row .exit) ≡ rowOf (length (now (row .entry))) (λ x. eqb x q || inRow (now (row .entry)) x) ⌝ }
+{
+    let c = q / 64;
+    row[c] = row[c] | (1 << (q % 64));
+}
+
+// Takes every state out of the row's first k words.
+pub fn row_clear(row: &mut [u64], k: usize)
+    requires { ⌜ k ≤ length (now row) ⌝ }
+    ensures { λ _. ⌜ now (row .exit) ≡ rowOf k (λ q. false) ++ drop k (now (row .entry)) ⌝ }
+{
+    let mut c = 0;
+    while c < k {
+        row[c] = 0;
+        c += 1;
+    }
+}
+
+// Writes the states of the first k words of `from` into the row.
+pub fn row_copy(row: &mut [u64], from: &[u64], k: usize)
+    requires { ⌜ (k ≤ length (now row)) × (k ≤ length (now from)) ⌝ }
+    ensures { λ _. ⌜ now (row .exit) ≡ rowOf k (inRow (now (from .entry))) ++ drop k (now (row .entry)) ⌝ }
+{
+    let mut c = 0;
+    while c < k {
+        row[c] = from[c];
+        c += 1;
+    }
+}
+
+// Puts the states of `mask` into the row's first k words.
+pub fn row_union(row: &mut [u64], mask: &[u64], k: usize)
+    requires { ⌜ (k ≤ length (now row)) × (k ≤ length (now mask)) ⌝ }
+    ensures { λ _. ⌜ now (row .exit) ≡ rowOf k (λ q. inRow (now (row .entry)) q || inRow (now (mask .entry)) q) ++ drop k (now (row .entry)) ⌝ }
+{
+    let mut c = 0;
+    while c < k {
+        row[c] = row[c] | mask[c];
+        c += 1;
+    }
+}
+
+// Leaves the states of `mask` alone in the row's first k words.
+pub fn row_intersect(row: &mut [u64], mask: &[u64], k: usize)
+    requires { ⌜ (k ≤ length (now row)) × (k ≤ length (now mask)) ⌝ }
+    ensures { λ _. ⌜ now (row .exit) ≡ rowOf k (λ q. inRow (now (row .entry)) q && inRow (now (mask .entry)) q) ++ drop k (now (row .entry)) ⌝ }
+{
+    let mut c = 0;
+    while c < k {
+        row[c] = row[c] & mask[c];
+        c += 1;
+    }
+}
+
+// Takes the states of `mask` out of the row's first k words.
+pub fn row_minus(row: &mut [u64], mask: &[u64], k: usize)
+    requires { ⌜ (k ≤ length (now row)) × (k ≤ length (now mask)) ⌝ }
+    ensures { λ _. ⌜ now (row .exit) ≡ rowOf k (λ q. inRow (now (row .entry)) q && not (inRow (now (mask .entry)) q)) ++ drop k (now (row .entry)) ⌝ }
+{
+    let mut c = 0;
+    while c < k {
+        row[c] = row[c] & !mask[c];
+        c += 1;
+    }
+}
+
+// Whether the row has a state in its first k words.
+pub fn row_any(row: &[u64], k: usize) -> bool
+    requires { ⌜ k ≤ length (now row) ⌝ }
+    ensures { λ r. ⌜ r ≡ anyBelow (k * 64) (inRow (now (row .entry))) ⌝ }
+{
+    let mut c = 0;
+    while c < k {
+        if row[c] != 0 {
+            return true;
+        }
+        c += 1;
+    }
+    false
+}
+
+// Whether a and b have a state in common in their first k words.
+pub fn row_meets(a: &[u64], b: &[u64], k: usize) -> bool
+    requires { ⌜ (k ≤ length (now a)) × (k ≤ length (now b)) ⌝ }
+    ensures { λ r. ⌜ r ≡ anyBelow (k * 64) (λ q. inRow (now (a .entry)) q && inRow (now (b .entry)) q) ⌝ }
+{
+    let mut c = 0;
+    while c < k {
+        if a[c] & b[c] != 0 {
+            return true;
+        }
+        c += 1;
+    }
+    false
+}
+
+// Whether the first k words of a and b hold other states.
+pub fn row_differs(a: &[u64], b: &[u64], k: usize) -> bool
+    requires { ⌜ (k ≤ length (now a)) × (k ≤ length (now b)) ⌝ }
+    ensures { λ r. ⌜ r ≡ anyBelow (k * 64) (λ q. xor (inRow (now (a .entry)) q) (inRow (now (b .entry)) q)) ⌝ }
+{
+    let mut c = 0;
+    while c < k {
+        if a[c] ^ b[c] != 0 {
+            return true;
+        }
+        c += 1;
+    }
+    false
+}
+
+// Whether every state in the first k words of a is in b.
+pub fn row_within(a: &[u64], b: &[u64], k: usize) -> bool
+    requires { ⌜ (k ≤ length (now a)) × (k ≤ length (now b)) ⌝ }
+    ensures { λ r. ⌜ r ≡ includedBelow (k * 64) (inRow (now (a .entry))) (inRow (now (b .entry))) ⌝ }
+{
+    let mut c = 0;
+    while c < k {
+        if a[c] & !b[c] != 0 {
+            return false;
+        }
+        c += 1;
+    }
+    true
+}
+
+// Matrices: a relation on the states below n.
+
+// Whether the pair (p, q) is in the matrix.
+pub fn has(grid: &[u64], w: usize, p: usize, q: usize) -> bool
+    requires { ⌜ p * w + q / 64 < length (now grid) ⌝ }
+    ensures { λ r. ⌜ r ≡ inMatrix w (now (grid .entry)) p q ⌝ }
+{
+    (grid[p * w + q / 64] >> (q % 64)) % 2 == 1
+}
+
+// The matrix from row p on.
+pub fn row_at(grid: &[u64], n: usize, p: usize) -> &[u64]
+    requires { ⌜ (length (now grid) ≡ n * rowWords n) × (n ≤ 256) × (p < n) ⌝ }
+    ensures { λ r. ⌜ now r ≡ drop (p * rowWords n) (now (grid .entry)) ⌝ }
+{
+    let w = (n + 63) / 64;
+    let at = p * w;
+    &grid[at..]
+}
+
+// How many pairs the matrix has: the ones of its words, summed.
+pub fn count_pairs(grid: &[u64], n: usize) -> usize
+    requires { ⌜ Matrix n (now grid) × (n ≤ 256) ⌝ }
+    ensures { λ r. ⌜ r ≡ pairCount n (relationOf n (now (grid .entry))) ⌝ }
+{
+    let mut total: usize = 0;
+    let mut j = 0;
+    while j < grid.len() {
+        total += u64::count_ones(grid[j]) as usize;
+        j += 1;
+    }
+    total
+}
+
+// Copies a whole matrix.
+pub fn copy_matrix(grid: &mut [u64], from: &[u64])
+    requires { ⌜ length (now from) ≡ length (now grid) ⌝ }
+    ensures { λ _. ⌜ now (grid .exit) ≡ now (from .entry) ⌝ }
+{
+    let mut j = 0;
+    while j < from.len() {
+        grid[j] = from[j];
+        j += 1;
+    }
+}
+
+// Puts the set that `row` holds in the place of row p.
+pub fn set_row(grid: &mut [u64], n: usize, p: usize, row: &[u64])
+    requires { ⌜ Matrix n (now grid) × (n ≤ 256) × (p < n) × Row n (now row) ⌝ }
+    ensures { λ _. ⌜ now (grid .exit) ≡ matrixOf n (setRow p (inRow (now (row .entry))) (relationOf n (now (grid .entry)))) ⌝ }
+{
+    let w = (n + 63) / 64;
+    let at = p * w;
+    row_copy(&mut grid[at..], row, w);
+}
+
+// Puts row q of `from` in the place of row p.
+pub fn copy_row(grid: &mut [u64], n: usize, p: usize, from: &[u64], q: usize)
+    requires { ⌜ Matrix n (now grid) × Matrix n (now from) × (n ≤ 256) × (p < n) × (q < n) ⌝ }
+    ensures { λ _. ⌜ now (grid .exit) ≡ matrixOf n (setRow p (relationOf n (now (from .entry)) q) (relationOf n (now (grid .entry)))) ⌝ }
+{
+    set_row(grid, n, p, row_at(from, n, q));
+}
+
+// Leaves the states of `mask` alone in row p.
+pub fn keep_states(grid: &mut [u64], n: usize, p: usize, mask: &[u64])
+    requires { ⌜ Matrix n (now grid) × (n ≤ 256) × (p < n) × (rowWords n ≤ length (now mask)) ⌝ }
+    ensures { λ _. ⌜ now (grid .exit) ≡ matrixOf n (setRow p (λ q. relationOf n (now (grid .entry)) p q && inRow (now (mask .entry)) q) (relationOf n (now (grid .entry)))) ⌝ }
+{
+    let w = (n + 63) / 64;
+    let at = p * w;
+    row_intersect(&mut grid[at..], mask, w);
+}
+
+// Takes the states of `mask` out of row p.
+pub fn remove_states(grid: &mut [u64], n: usize, p: usize, mask: &[u64])
+    requires { ⌜ Matrix n (now grid) × (n ≤ 256) × (p < n) × (rowWords n ≤ length (now mask)) ⌝ }
+    ensures { λ _. ⌜ now (grid .exit) ≡ matrixOf n (withoutStates p (inRow (now (mask .entry))) (relationOf n (now (grid .entry)))) ⌝ }
+{
+    let w = (n + 63) / 64;
+    let at = p * w;
+    row_minus(&mut grid[at..], mask, w);
+}
+
+// Takes (p, q) out of the matrix for each p in `from` and q in `mask`.
+pub fn remove_product(grid: &mut [u64], n: usize, from: &[u64], mask: &[u64])
+    requires { ⌜ Matrix n (now grid) × (n ≤ 256) × (rowWords n ≤ length (now from)) × (rowWords n ≤ length (now mask)) ⌝ }
+    ensures { λ _. ⌜ now (grid .exit) ≡ matrixOf n (withoutProduct (inRow (now (from .entry))) (inRow (now (mask .entry))) (relationOf n (now (grid .entry)))) ⌝ }
+{
+    let mut p = 0;
+    while p < n {
+        if contains(from, p) {
+            remove_states(grid, n, p, mask);
+        }
+        p += 1;
+    }
+}
+
+// Whether each pair of a is in b.
+pub fn matrix_within(a: &[u64], b: &[u64], n: usize) -> bool
+    requires { ⌜ Matrix n (now a) × Matrix n (now b) × (n ≤ 256) ⌝ }
+    ensures { λ r. ⌜ r ≡ withinBelow n (relationOf n (now (a .entry))) (relationOf n (now (b .entry))) ⌝ }
+{
+    row_within(a, b, a.len())
+}
+
+// Whether row p has no bit at q ≥ n.
+fn row_formed(grid: &[u64], n: usize, p: usize) -> bool
+    requires { ⌜ (length (now grid) ≡ n * rowWords n) × (n ≤ 256) × (p < n) ⌝ }
+    ensures { λ r. ⌜ r ≡ clearAt n (now (grid .entry)) p ⌝ }
+{
+    let m = n % 64;
+    if m == 0 {
+        return true;
+    }
+    let w = (n + 63) / 64;
+    grid[p * w + n / 64] >> m == 0
+}
+
+// Whether the matrix has n rows and no bit at q ≥ n.
+pub fn is_matrix(grid: &[u64], n: usize) -> bool
+    requires { ⌜ n ≤ 256 ⌝ }
+    ensures { λ r. ⌜ r ≡ isMatrix n (now (grid .entry)) ⌝ }
+{
+    let w = (n + 63) / 64;
+    if grid.len() != n * w {
+        return false;
+    }
+    let mut p = 0;
+    while p < n {
+        if !row_formed(grid, n, p) {
+            return false;
+        }
+        p += 1;
+    }
+    true
+}
+
 // Whether the pair (p, p) is in the matrix for each state p.
 pub fn is_reflexive(grid: &[u64], n: usize) -> bool
     requires { ⌜ Matrix n (now grid) × (n ≤ 256) ⌝ }
@@ -93,35 +319,10 @@ pub fn is_reflexive(grid: &[u64], n: usize) -> bool
     true
 }
 
-// Whether every state in the first k words of a is in b.
-fn row_within(a: &[u64], b: &[u64], k: usize) -> bool
-    requires { ⌜ (k ≤ length (now a)) × (k ≤ length (now b)) ⌝ }
-    ensures { λ r. ⌜ r ≡ includedBelow (k * 64) (inRow (now (a .entry))) (inRow (now (b .entry))) ⌝ }
-{
-    let mut c = 0;
-    while c < k {
-        if a[c] & !b[c] != 0 {
-            return false;
-        }
-        c += 1;
-    }
-    true
-}
-
-// The matrix from row p on.
-fn row_at(grid: &[u64], n: usize, p: usize) -> &[u64]
-    requires { ⌜ (length (now grid) ≡ n * rowWords n) × (n ≤ 256) × (p < n) ⌝ }
-    ensures { λ r. ⌜ now r ≡ drop (p * rowWords n) (now (grid .entry)) ⌝ }
-{
-    let w = (n + 63) / 64;
-    let at = p * w;
-    &grid[at..]
-}
-
-// Whether, if (p, q) is in the matrix, the row of q lies within the row of p.
+// Whether what q is related to is what p is, if (p, q) is in the matrix.
 fn transitive_pair(grid: &[u64], n: usize, p: usize, q: usize) -> bool
     requires { ⌜ Matrix n (now grid) × (n ≤ 256) × (p < n) × (q < n) ⌝ }
-    ensures { λ r. ⌜ r ≡ relationOf n (now (grid .entry)) p q ⇒ includedBelow n (relationOf n (now (grid .entry)) q) (relationOf n (now (grid .entry)) p) ⌝ }
+    ensures { λ r. ⌜ r ≡ transitivePair n (relationOf n (now (grid .entry))) p q ⌝ }
 {
     let w = (n + 63) / 64;
     if !has(grid, w, p, q) {
@@ -158,69 +359,92 @@ pub fn is_transitive(grid: &[u64], n: usize) -> bool
     true
 }
 
-// Whether row p has no bit at q ≥ n.
-fn row_clear(grid: &[u64], n: usize, p: usize) -> bool
-    requires { ⌜ (length (now grid) ≡ n * rowWords n) × (n ≤ 256) × (p < n) ⌝ }
-    ensures { λ r. ⌜ r ≡ clearAt n (now (grid .entry)) p ⌝ }
-{
-    let m = n % 64;
-    if m == 0 {
-        return true;
-    }
-    let w = (n + 63) / 64;
-    grid[p * w + n / 64] >> m == 0
+// What the test of a preorder says.
+pub enum Checked {
+    Preorder,
+    Refused(lts::Refusal),
 }
 
-// Whether the matrix has n rows and no bit at q ≥ n.
-pub fn is_matrix(grid: &[u64], n: usize) -> bool
+// Whether the words are a matrix on n states, and a preorder: refusals 8, 9 and 10.
+pub fn check_preorder(grid: &[u64], n: usize) -> Checked
     requires { ⌜ n ≤ 256 ⌝ }
-    ensures { λ r. ⌜ r ≡ isMatrix n (now (grid .entry)) ⌝ }
+    ensures { λ r. ⌜ r ≡ checkPreorder n (now (grid .entry)) ⌝ }
 {
-    let w = (n + 63) / 64;
-    if grid.len() != n * w {
-        return false;
+    if !is_matrix(grid, n) {
+        return Checked::Refused(lts::Refusal::Grid);
     }
-    let mut p = 0;
-    while p < n {
-        if !row_clear(grid, n, p) {
-            return false;
-        }
-        p += 1;
+    if !is_reflexive(grid, n) {
+        return Checked::Refused(lts::Refusal::NotReflexive);
     }
-    true
+    if !is_transitive(grid, n) {
+        return Checked::Refused(lts::Refusal::NotTransitive);
+    }
+    Checked::Preorder
 }
 
-// Puts the states of `mask` into the row's first k words.
-pub fn row_union(row: &mut [u64], mask: &[u64], k: usize)
-    requires { ⌜ (k ≤ length (now row)) × (k ≤ length (now mask)) ⌝ }
-    ensures { λ _. ⌜ now (row .exit) ≡ rowOf k (λ q. inRow (now (row .entry)) q || inRow (now (mask .entry)) q) ++ drop k (now (row .entry)) ⌝ }
+// Whether q is a state that a terminating state (`ended`), or one that is not, is related to, as 0 or 1.
+fn termination_bit(marks: &[u8; 256], n: usize, q: usize, ended: bool) -> u64
+    requires { ⌜ n ≤ 256 ⌝ }
+    ensures { λ r. ⌜ r ≡ digit (statesBelow n (terminationRow n (now (marks .entry)) ended) q) ⌝ }
 {
+    if n <= q {
+        return 0;
+    }
+    if ended {
+        if marks[q] == 1 {
+            return 1;
+        }
+        return 0;
+    }
+    1
+}
+
+// Word c of such a row.
+fn termination_word(marks: &[u8; 256], n: usize, c: usize, ended: bool) -> u64
+    requires { ⌜ (n ≤ 256) × (c < 1024) ⌝ }
+    ensures { λ r. ⌜ r ≡ wordAt (statesBelow n (terminationRow n (now (marks .entry)) ended)) c ⌝ }
+{
+    let mut x: u64 = 0;
+    let mut i: usize = 64;
+    while 0 < i {
+        i -= 1;
+        x = x * 2 + termination_bit(marks, n, c * 64 + i, ended);
+    }
+    x
+}
+
+// Writes such a row into the first words of `row`.
+fn termination_row(row: &mut [u64], marks: &[u8; 256], n: usize, ended: bool)
+    requires { ⌜ (n ≤ 256) × (rowWords n ≤ length (now row)) ⌝ }
+    ensures { λ _. ⌜ now (row .exit) ≡ rowOf (rowWords n) (statesBelow n (terminationRow n (now (marks .entry)) ended)) ++ drop (rowWords n) (now (row .entry)) ⌝ }
+{
+    let w = (n + 63) / 64;
     let mut c = 0;
-    while c < k {
-        row[c] = row[c] | mask[c];
+    while c < w {
+        row[c] = termination_word(marks, n, c, ended);
         c += 1;
     }
 }
 
-// Takes (p, q) out of the matrix for each p in `from` and q in `mask`.
-pub fn remove_product(grid: &mut [u64], n: usize, from: &[u64], mask: &[u64])
-    requires { ⌜ Matrix n (now grid) × (n ≤ 256) × (rowWords n ≤ length (now from)) × (rowWords n ≤ length (now mask)) ⌝ }
-    ensures { λ _. ⌜ now (grid .exit) ≡ matrixOf n (withoutProduct (inRow (now (from .entry))) (inRow (now (mask .entry))) (relationOf n (now (grid .entry)))) ⌝ }
+// Writes the termination preorder (the end start) of the states with the mark 1.
+pub fn write_termination(marks: &[u8; 256], n: usize, grid: &mut [u64])
+    requires { ⌜ (n ≤ 256) × (length (now grid) ≡ n * rowWords n) ⌝ }
+    ensures { λ _. ⌜ now (grid .exit) ≡ matrixOf n (λ p q. markedSet n (now (marks .entry)) p ⇒ markedSet n (now (marks .entry)) q) ⌝ }
 {
+    let w = (n + 63) / 64;
     let mut p = 0;
     while p < n {
-        if contains(from, p) {
-            remove_states(grid, n, p, mask);
-        }
+        let at = p * w;
+        termination_row(&mut grid[at..], marks, n, marks[p] == 1);
         p += 1;
     }
 }
 
-// Puts state q into a row.
-pub fn insert(row: &mut [u64], q: usize)
-    requires { ⌜ q / 64 < length (now row) ⌝ }
-    ensures { λ _. ⌜ now (row .exit) ≡ rowOf (length (now (row .entry))) (λ x. eqb x q || inRow (now (row .entry)) x) ⌝ }
+// Writes the relation of all pairs.
+pub fn write_all_pairs(n: usize, grid: &mut [u64])
+    requires { ⌜ (n ≤ 256) × (length (now grid) ≡ n * rowWords n) ⌝ }
+    ensures { λ _. ⌜ now (grid .exit) ≡ matrixOf n (λ p q. true) ⌝ }
 {
-    let c = q / 64;
-    row[c] = row[c] | (1 << (q % 64));
+    let marks = [0u8; 256];
+    write_termination(&marks, n, grid);
 }

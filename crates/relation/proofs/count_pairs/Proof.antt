@@ -1,19 +1,17 @@
-use mathlib.Core.Path.{_≡_, sym, ap, _∙_}
-use mathlib.Core.List.{List}
-use Prim.Native.Nat.{ℕ, _≤_, _<_, _+_, _*_, _-_, _^_}
+use mathlib.Core.Path.{_≡_, _∙_}
+use Prim.Native.Nat.{_≤_, _<_, _*_, _-_, _^_}
 use native.Mathlib.Omega.{arith}
-use lib.Count.{ones, ones-le}
+use lib.Count.{ones-le}
 use lib.ListN.{length, getD}
 use denote.Ref.{now}
-use Rattle.relation.specs.Matrix.{bit, rowWords}
+use Rattle.relation.specs.Matrix.{bit}
 use Rattle.lts.specs.Bounded.{sumBelow, countBelow}
-use Rattle.relation.proofs.Counts.{ones-count, sum-none, sum-more, sum-done, bits-pairs}
+use Rattle.relation.proofs.Counts.{ones-count, bits-pairs}
+use Rattle.relation.proofs.Bounded.{sum-none, sum-more, sum-done}
 use Rattle.relation.proofs.Matrices.{matrix-small}
 use borrow.Author.Needs.{needs}
 use Rattle.relation.proofs.count_pairs.Statement.{statement}
 use Rattle.relation.proofs.count_pairs.Tie as tie
-use Rattle.relation.proofs.count_pairs.Reads as reads
-use Rattle.relation.proofs.count_pairs.Lts as lts
 
 abbrev Inv-loop : tie.InvT-loop
 Inv-loop grid n total₀ j₀ total j = (j ≤ length grid) × (total ≤ 64 * j) × (total ≡ sumBelow j (λ i. countBelow 64 (bit (getD grid i 0))))
@@ -21,15 +19,12 @@ Inv-loop grid n total₀ j₀ total j = (j ≤ length grid) × (total ≤ 64 * j
 abbrev μ-loop : tie.MeasureT-loop
 μ-loop grid n total₀ j₀ total j = length grid - j
 
--- src/lib.rt:105:5
 loop-holds : tie.Need-loop-holds Inv-loop μ-loop
 loop-holds c = (search needs, search needs, sum-none _)
 
--- src/lib.rt:106:34
 mul-total : tie.Need-mul-total Inv-loop μ-loop
 mul-total c = search needs
 
--- src/lib.rt:106:34
 shared-slice-read-total : tie.Need-shared-slice-read-total Inv-loop μ-loop
 shared-slice-read-total c = search needs
 
@@ -40,23 +35,18 @@ word c = c .shared-slice-known .given (c .before .before .loop .j) .fits
 small : (c : tie.Start Inv-loop μ-loop) → length (now (c .args .grid)) ≤ 1024
 small c = omega (arith, matrix-small (c .args .n) (c .pre .1), c .pre .0 .long)
 
--- src/lib.rt:106:18
 cast-total : tie.Need-cast-total Inv-loop μ-loop
 cast-total c = omega (arith, ones-le 64 _ (word c))
 
--- src/lib.rt:106:9
 add-total : tie.Need-add-total Inv-loop μ-loop
 add-total c = omega (arith, ones-le 64 _ (word c), small (c .before .before .before))
 
--- src/lib.rt:107:9
 add-j : tie.Need-add-j Inv-loop μ-loop
 add-j c = search needs
 
--- src/lib.rt:105:5
 loop-less : tie.Need-loop-less Inv-loop μ-loop
 loop-less c = search needs
 
--- src/lib.rt:105:5
 loop-again : tie.Need-loop-again Inv-loop μ-loop
 loop-again c = (
   search needs,
@@ -64,7 +54,6 @@ loop-again c = (
   sum-more _ (c .before .before .loop .j) (c .before .before .loop .inv .2) (ones-count 64 (word c)),
 )
 
--- src/lib.rt:99:1
 returns : tie.Need-returns Inv-loop μ-loop
 returns c = sum-done _ _ _ (c .before .loop .inv .2) (omega (arith, c .before .before .pre .0 .long)) ∙ bits-pairs _ _ (c .before .before .pre .0)
 

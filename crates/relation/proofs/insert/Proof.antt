@@ -3,34 +3,25 @@ use Rattle.relation.proofs.Rows.{row-insert}
 use borrow.Author.Needs.{needs}
 use Rattle.relation.proofs.insert.Statement.{statement}
 use Rattle.relation.proofs.insert.Tie as tie
-use Rattle.relation.proofs.insert.Reads as reads
-use Rattle.relation.proofs.insert.Lts as lts
 
--- src/lib.rt:275:14
 mul-row : tie.Need-mul-row
 mul-row c = search needs
 
--- src/lib.rt:275:14
 slice-read-row : tie.Need-slice-read-row
 slice-read-row c = search needs
 
--- src/lib.rt:275:24
 shl-row : tie.Need-shl-row
 shl-row c = search needs
 
--- src/lib.rt:275:5
 mul-row-2 : tie.Need-mul-row-2
 mul-row-2 c = search needs
 
--- src/lib.rt:275:5
 slice-write-row : tie.Need-slice-write-row
 slice-write-row c = search needs
 
--- src/lib.rt:270:1
 same-length : tie.Need-same-length
 same-length c = search needs
 
--- src/lib.rt:270:1
 returns : tie.Need-returns
 returns c = row-insert (now (c .before .args .row)) (c .before .args .q) (c .before .pre) (λ j. c .slice-known .given j .fits)
 

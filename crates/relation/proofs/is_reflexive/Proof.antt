@@ -1,21 +1,17 @@
-use mathlib.Core.Path.{_≡_, sym, ap, _∙_}
-use mathlib.Core.Bool.{true, false}
-use Prim.Native.Nat.{ℕ, _≤_, _<_, _+_, _*_, _-_, _/_}
+use mathlib.Core.Path.{_≡_, sym, _∙_}
+use mathlib.Core.Bool.{true}
+use Prim.Native.Nat.{ℕ, _≤_, _<_, _-_}
 use native.Mathlib.Omega.{arith}
-use lib.ListN.{length}
 use denote.Ref.{now}
 use borrow.Author.Count.{below-none, below-more}
 use borrow.Author.Tests.{not-true, not-false}
-use Rattle.relation.specs.Matrix.{relationOf, rowWords}
+use Rattle.relation.specs.Matrix.{relationOf}
 use Rattle.relation.specs.Check.{reflexiveBelow}
-use Rattle.relation.proofs.Checks.{all-yes, all-not}
+use Rattle.relation.proofs.Bounded.{all-yes, all-not}
 use Rattle.relation.proofs.Matrices.{pair-word}
 use borrow.Author.Needs.{needs}
 use Rattle.relation.proofs.is_reflexive.Statement.{statement}
 use Rattle.relation.proofs.is_reflexive.Tie as tie
-use Rattle.relation.proofs.is_reflexive.Reads as reads
-use Rattle.relation.proofs.is_reflexive.Lts as lts
-use Rattle.relation.proofs.has.Reads as has-reads
 
 abbrev Inv-loop : tie.InvT-loop
 Inv-loop grid n w p₀ p = (p ≤ n) × ((t : ℕ) → t < p → relationOf n grid t t ≡ true)
@@ -23,36 +19,28 @@ Inv-loop grid n w p₀ p = (p ≤ n) × ((t : ℕ) → t < p → relationOf n gr
 abbrev μ-loop : tie.MeasureT-loop
 μ-loop grid n w p₀ p = n - p
 
--- src/lib.rt:134:14
 add-w : tie.Need-add-w Inv-loop μ-loop
 add-w c = search needs
 
--- src/lib.rt:136:5
 loop-holds : tie.Need-loop-holds Inv-loop μ-loop
 loop-holds c = (search needs, below-none _)
 
--- src/lib.rt:137:13
 has-requires : tie.Need-has-requires Inv-loop μ-loop
 has-requires c κs = pair-word _ (now (c .before .before .before .args .grid)) (c .loop-test .taken) (c .loop-test .taken) (c .before .before .before .pre .0 .long)
 
--- src/lib.rt:138:13
 returns : tie.Need-returns Inv-loop μ-loop
 unfolding reflexiveBelow
 returns c = all-not _ _ (c .before .before .before .loop .p) (c .before .before .loop-test .taken) (sym (c .before .has .ensures) ∙ not-true _ (c .if1 .taken))
 
--- src/lib.rt:140:9
 add-p : tie.Need-add-p Inv-loop μ-loop
 add-p c = search needs
 
--- src/lib.rt:136:5
 loop-less : tie.Need-loop-less Inv-loop μ-loop
 loop-less c = search needs
 
--- src/lib.rt:136:5
 loop-again : tie.Need-loop-again Inv-loop μ-loop
 loop-again c = (search needs, below-more _ _ (c .before .before .before .loop .inv .1) (sym (c .before .has .ensures) ∙ not-false _ (c .if1 .left)))
 
--- src/lib.rt:130:1
 returns-2 : tie.Need-returns-2 Inv-loop μ-loop
 unfolding reflexiveBelow
 returns-2 c = all-yes _ _ (λ i h. c .before .loop .inv .1 i (omega arith))

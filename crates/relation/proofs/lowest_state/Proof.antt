@@ -1,22 +1,20 @@
-use mathlib.Core.Path.{_≡_, sym, ap, _∙_}
-use mathlib.Core.Bool.{true, false}
-use mathlib.Core.List.{List}
-use Prim.Native.Nat.{ℕ, _≤_, _<_, _+_, _*_, _-_, _^_, _/_, _%_}
+use mathlib.Core.Path.{_≡_, ap, _∙_}
+use mathlib.Core.Bool.{false}
+use Prim.Native.Nat.{ℕ, _≤_, _<_, _*_, _-_}
 use native.Mathlib.Nat.{not-suc-le-zero}
 use Rattle.relation.proofs.Bits.{bit-of-zero}
 use Rattle.relation.proofs.Rows.{inRow-at, row-before}
 use native.Mathlib.Omega.{arith}
 use lib.Count.{trailingZeros}
-use lib.ListN.{length, getD}
+use lib.ListN.{getD}
 use denote.Ref.{now}
 use Rattle.relation.specs.Matrix.{bit, inRow}
 use Rattle.lts.specs.Bounded.{lowest}
-use Rattle.relation.proofs.Counts.{first-is, first-none, trailing-lt, trailing-at, trailing-before}
+use Rattle.relation.proofs.Counts.{trailing-lt, trailing-at, trailing-before}
+use Rattle.relation.proofs.Bounded.{lowest-is, lowest-none}
 use borrow.Author.Needs.{needs}
 use Rattle.relation.proofs.lowest_state.Statement.{statement}
 use Rattle.relation.proofs.lowest_state.Tie as tie
-use Rattle.relation.proofs.lowest_state.Reads as reads
-use Rattle.relation.proofs.lowest_state.Lts as lts
 
 abbrev Inv-loop : tie.InvT-loop
 Inv-loop row k c₀ c = (c ≤ k) × ((q : ℕ) → q < c * 64 → inRow row q ≡ false)
@@ -24,19 +22,15 @@ Inv-loop row k c₀ c = (c ≤ k) × ((q : ℕ) → q < c * 64 → inRow row q �
 abbrev μ-loop : tie.MeasureT-loop
 μ-loop row k c₀ c = k - c
 
--- src/lib.rt:118:5
 loop-holds : tie.Need-loop-holds Inv-loop μ-loop
 loop-holds c = (search needs, λ q h. absurd (not-suc-le-zero h))
 
--- src/lib.rt:119:17
 mul-x : tie.Need-mul-x Inv-loop μ-loop
 mul-x c = search needs
 
--- src/lib.rt:119:17
 shared-slice-read-x : tie.Need-shared-slice-read-x Inv-loop μ-loop
 shared-slice-read-x c = search needs
 
--- src/lib.rt:121:20
 mul-result : tie.Need-mul-result Inv-loop μ-loop
 mul-result c = search needs
 
@@ -44,32 +38,26 @@ mul-result c = search needs
 low : (c : tie.Then1 Inv-loop μ-loop) → trailingZeros 64 (getD (now (c .before .before .before .before .args .row)) (c .before .before .before .loop .c) 0) < 64
 low c = trailing-lt 64 _ (c .before .shared-slice-known .given (c .before .before .before .loop .c) .fits) (c .if1 .taken)
 
--- src/lib.rt:121:29
 cast-result : tie.Need-cast-result Inv-loop μ-loop
 cast-result c = omega (arith, low c)
 
--- src/lib.rt:121:20
 add-result : tie.Need-add-result Inv-loop μ-loop
 add-result c = omega (arith, low c)
 
--- src/lib.rt:121:13
 returns : tie.Need-returns Inv-loop μ-loop
 returns c =
     let at = c .before .before .before in
     let row = now (at .before .args .row) in
     let x = getD row (at .loop .c) 0 in
-    first-is _ _ _ (omega (arith, low c)) (inRow-at row (at .loop .c) _ (low c) ∙ trailing-at 64 x (low c))
+    lowest-is _ _ _ (omega (arith, low c)) (inRow-at row (at .loop .c) _ (low c) ∙ trailing-at 64 x (low c))
     (row-before row (at .loop .c) _ (omega (arith, low c)) (at .loop .inv .1) (trailing-before 64 x))
 
--- src/lib.rt:123:9
 add-c : tie.Need-add-c Inv-loop μ-loop
 add-c c = search needs
 
--- src/lib.rt:118:5
 loop-less : tie.Need-loop-less Inv-loop μ-loop
 loop-less c = search needs
 
--- src/lib.rt:118:5
 loop-again : tie.Need-loop-again Inv-loop μ-loop
 loop-again c =
     let at = c .before .before .before in
@@ -78,13 +66,11 @@ loop-again c =
       λ q h. row-before row (at .loop .c) 64 (omega arith) (at .loop .inv .1) (λ i l. ap (λ (x : ℕ). bit x i) (c .if1 .left) ∙ bit-of-zero i) q (omega arith),
     )
 
--- src/lib.rt:125:5
 mul-result-2 : tie.Need-mul-result-2 Inv-loop μ-loop
 mul-result-2 c = search needs
 
--- src/lib.rt:113:1
 returns-2 : tie.Need-returns-2 Inv-loop μ-loop
-returns-2 c = first-none _ _ (λ q h. c .before .loop .inv .1 q (omega arith))
+returns-2 c = lowest-none _ _ (λ q h. c .before .loop .inv .1 q (omega arith))
 
 pub lowest-state-spec : {M : Type 1} → statement M
 lowest-state-spec =

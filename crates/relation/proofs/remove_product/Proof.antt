@@ -2,20 +2,16 @@ use mathlib.Core.Path.{_≡_, refl, sym, ap, ap₂, _∙_}
 use mathlib.Core.Bool.{Bool, true, false, not, _&&_, cond}
 use mathlib.Core.List.{List}
 use mathlib.Core.Logic.{⊎-elim}
-use Prim.Native.Nat.{ℕ, _≤_, _<_, _+_, _*_, _-_, _/_}
+use Prim.Native.Nat.{ℕ, _≤_, _<_, _+_, _-_}
 use native.Mathlib.Omega.{arith}
 use lib.ListN.{length}
 use denote.Ref.{now}
-use Rattle.relation.specs.Matrix.{inRow, relationOf, rowWords, matrixOf, Matrix, rowsOf, withoutStates, withoutProduct}
+use Rattle.relation.specs.Matrix.{inRow, relationOf, matrixOf, rowsOf, withoutStates, withoutProduct}
 use Rattle.relation.proofs.Matrices.{length-matrixOf, matrix-relation, relation-of, formed-of, done-none, done-more, done-all}
 use borrow.Author.Tests.{le-ltb, eq-eqb, ne-eqb}
 use borrow.Author.Needs.{needs}
 use Rattle.relation.proofs.remove_product.Statement.{statement}
 use Rattle.relation.proofs.remove_product.Tie as tie
-use Rattle.relation.proofs.remove_product.Reads as reads
-use Rattle.relation.proofs.remove_product.Lts as lts
-use Rattle.relation.proofs.contains.Reads as contains-reads
-use Rattle.relation.proofs.remove_states.Reads as remove-states-reads
 
 -- a row of the product, where p is in A and where it is not
 taken : (n : ℕ) (A M : ℕ → Bool) (R : ℕ → ℕ → Bool) (p : ℕ) (g : List ℕ) → p < n → g ≡ matrixOf n (rowsOf p (withoutProduct A M R) R) → A p ≡ true
@@ -46,30 +42,24 @@ Inv-loop grid₀ n from mask p₀ grid p = (p ≤ n) × (grid ≡ matrixOf n (ro
 abbrev μ-loop : tie.MeasureT-loop
 μ-loop grid₀ n from mask p₀ grid p = n - p
 
--- src/lib.rt:269:5
 loop-holds : tie.Need-loop-holds Inv-loop μ-loop
 loop-holds c = (search needs, matrix-relation _ _ (c .before .before .before .pre .0) (λ j. c .before .before .slice-known .given j .fits) ∙ done-none _ _ _)
 
--- src/lib.rt:270:12
 contains-requires : tie.Need-contains-requires Inv-loop μ-loop
 contains-requires c κs = search needs
 
--- src/lib.rt:271:13
 remove-states-requires : tie.Need-remove-states-requires Inv-loop μ-loop
 remove-states-requires c κs =
     let at = c .before .before .before .before in
     let start = at .before .before .before .before in
     (formed-of _ _ (at .loop .inv .1), start .pre .1, c .before .before .before .loop-test .taken, start .pre .3)
 
--- src/lib.rt:273:9
 add-p : tie.Need-add-p Inv-loop μ-loop
 add-p c = search needs
 
--- src/lib.rt:269:5
 loop-less : tie.Need-loop-less Inv-loop μ-loop
 loop-less c = search needs
 
--- src/lib.rt:269:5
 loop-again : tie.Need-loop-again Inv-loop μ-loop
 loop-again c =
     let at = c .before .before .before in
@@ -86,11 +76,9 @@ loop-again c =
           (c .if1 .came),
     )
 
--- src/lib.rt:264:1
 same-length : tie.Need-same-length Inv-loop μ-loop
 same-length c = ap length (c .before .loop .inv .1) ∙ length-matrixOf _ _ ∙ sym (c .before .before .before .before .before .pre .0 .long)
 
--- src/lib.rt:264:1
 returns : tie.Need-returns Inv-loop μ-loop
 returns c = c .before .loop .inv .1 ∙ done-all _ _ _ _ (omega arith)
 

@@ -7,37 +7,28 @@ use Rattle.relation.proofs.Matrices.{row-fits, tail-part}
 use borrow.Author.Needs.{needs}
 use Rattle.relation.proofs.row_at.Statement.{statement}
 use Rattle.relation.proofs.row_at.Tie as tie
-use Rattle.relation.proofs.row_at.Reads as reads
-use Rattle.relation.proofs.row_at.Lts as lts
 
 room : (c : tie.Start) → c .args .p * rowWords (c .args .n) + rowWords (c .args .n) ≤ length (now (c .args .grid))
 room c = row-fits (c .args .n) (now (c .args .grid)) (c .pre .2) (c .pre .0)
 
--- src/lib.rt:165:14
 add-w : tie.Need-add-w
 add-w c = search needs
 
--- src/lib.rt:166:14
 mul-at : tie.Need-mul-at
 mul-at c = omega (arith, room c)
 
--- src/lib.rt:167:5
 mul-result : tie.Need-mul-result
 mul-result c = omega (arith, room c)
 
--- src/lib.rt:167:5
 sub-result : tie.Need-sub-result
 sub-result c = omega (arith, room c)
 
--- src/lib.rt:167:5
 part-result-start : tie.Need-part-result-start
 part-result-start c = omega (arith, room c)
 
--- src/lib.rt:167:5
 part-result-end : tie.Need-part-result-end
 part-result-end c = search needs
 
--- src/lib.rt:161:1
 returns : tie.Need-returns
 returns c = tail-part (c .before .args .p * rowWords (c .before .args .n)) (now (c .before .args .grid))
 

@@ -1,65 +1,63 @@
 use mathlib.Core.Path.{_≡_}
-use Prim.Native.Nat.{ℕ, _≤_, _<_, _+_, _*_, _/_, _%_}
+use mathlib.Core.List.{_++_}
+use Prim.Native.Nat.{_≤_, _-_}
 use native.Mathlib.Omega.{arith}
-use lib.ListN.{length}
-use denote.Ref.{now}
-use Rattle.relation.specs.Matrix.{rowWords}
-use Rattle.relation.proofs.Matrices.{word-below}
-use Rattle.relation.proofs.Checks.{clear-full, clear-last}
+use lib.ListN.{length, drop, length-set}
+use Rattle.lts.specs.Bounded.{listBelow}
+use mathlib.Core.Bool.{false}
+use Rattle.relation.specs.Matrix.{rowOf}
+use Rattle.relation.proofs.Bits.{bit-of-zero}
+use Rattle.relation.proofs.Rows.{row-more, row-done}
 use borrow.Author.Needs.{needs}
 use Rattle.relation.proofs.row_clear.Statement.{statement}
 use Rattle.relation.proofs.row_clear.Tie as tie
-use Rattle.relation.proofs.row_clear.Reads as reads
-use Rattle.relation.proofs.row_clear.Lts as lts
 
--- the word of the first bit that is no state's
-room : (c : tie.Else1) → c .before .args .p * rowWords (c .before .args .n) + c .before .args .n / 64 < length (now (c .before .args .grid))
-room c =
-    let n = c .before .args .n in
-    let col : n / 64 < rowWords n = omega arith in
-    omega (arith, word-below n (c .before .pre .2) col)
+abbrev Inv-loop : tie.InvT-loop
+Inv-loop row₀ k c₀ row c = (c ≤ k) × (length row ≡ length row₀) × (row ≡ rowOf c (λ q. false) ++ drop c row₀)
 
--- src/lib.rt:217:9
-returns : tie.Need-returns
-returns c = clear-full _ _ _ (c .if1 .taken)
+abbrev μ-loop : tie.MeasureT-loop
+μ-loop row₀ k c₀ row c = k - c
 
--- src/lib.rt:219:14
-add-w : tie.Need-add-w
-add-w c = search needs
+loop-holds : tie.Need-loop-holds Inv-loop μ-loop
+unfolding listBelow
+loop-holds c = search needs
 
--- src/lib.rt:220:10
-mul-result : tie.Need-mul-result
-mul-result c = omega (arith, room c)
+mul-row : tie.Need-mul-row Inv-loop μ-loop
+mul-row c = search needs
 
--- src/lib.rt:220:10
-add-result : tie.Need-add-result
-add-result c = omega (arith, room c)
+slice-write-row : tie.Need-slice-write-row Inv-loop μ-loop
+slice-write-row c = search needs
 
--- src/lib.rt:220:5
-mul-result-2 : tie.Need-mul-result-2
-mul-result-2 c = omega (arith, room c)
+add-c : tie.Need-add-c Inv-loop μ-loop
+add-c c = search needs
 
--- src/lib.rt:220:5
-shared-slice-read-result : tie.Need-shared-slice-read-result
-shared-slice-read-result c = omega (arith, room (c .before))
+loop-less : tie.Need-loop-less Inv-loop μ-loop
+loop-less c = search needs
 
--- src/lib.rt:220:5
-shr-result : tie.Need-shr-result
-shr-result c = search needs
+loop-again : tie.Need-loop-again Inv-loop μ-loop
+loop-again c = (
+  search needs,
+  simp length-set (omega arith),
+  row-more _ _ _ (c .before .loop .c) (c .before .loop .inv .2) (omega arith) (omega arith) (λ i l. bit-of-zero i),
+)
 
--- src/lib.rt:211:1
-returns-2 : tie.Need-returns-2
-returns-2 c = clear-last _ _ _ (omega arith) (c .shared-slice-known .given _ .fits)
+same-length : tie.Need-same-length Inv-loop μ-loop
+same-length c = search needs
+
+returns : tie.Need-returns Inv-loop μ-loop
+returns c = row-done _ _ _ _ (c .before .loop .inv .2) (omega arith)
 
 pub row-clear-spec : {M : Type 1} → statement M
 row-clear-spec =
     tie.close
     (tie.spec
-    returns
-    add-w
-    mul-result
-    add-result
-    mul-result-2
-    shared-slice-read-result
-    shr-result
-    returns-2)
+    Inv-loop
+    μ-loop
+    loop-holds
+    mul-row
+    slice-write-row
+    add-c
+    loop-less
+    loop-again
+    same-length
+    returns)

@@ -1,46 +1,32 @@
-use mathlib.Core.Path.{_≡_, sym, ap, ap₂, _∙_, subst⁻¹}
-use mathlib.Core.Bool.{Bool, true, false}
+use Rattle.relation.proofs.Checks.{pair-none, pair-some, rows-within}
+use mathlib.Core.Path.{sym, ap₂, _∙_, subst⁻¹}
 use mathlib.Core.List.{List}
-use Prim.Native.Nat.{ℕ, _≤_, _<_, _+_, _*_}
-use native.Mathlib.Omega.{arith}
-use lib.ListN.{length, drop, length-drop}
+use Prim.Native.Nat.{ℕ, _≤_, _*_}
+use lib.ListN.{length}
 use denote.Ref.{now}
 use borrow.Author.Tests.{not-true, not-false}
 use Rattle.relation.specs.Matrix.{inRow, relationOf, rowWords}
 use Rattle.relation.specs.Check.{includedBelow}
-use Rattle.lts.specs.Bounded.{_⇒_}
 use Rattle.relation.proofs.Matrices.{pair-word, row-long}
-use Rattle.relation.proofs.Checks.{rows-within}
 use borrow.Author.Needs.{needs}
 use Rattle.relation.proofs.transitive_pair.Statement.{statement}
 use Rattle.relation.proofs.transitive_pair.Tie as tie
-use Rattle.relation.proofs.transitive_pair.Reads as reads
-use Rattle.relation.proofs.transitive_pair.Lts as lts
-use Rattle.relation.proofs.has.Reads as has-reads
-use Rattle.relation.proofs.row_at.Reads as row-at-reads
-use Rattle.relation.proofs.row_within.Reads as row-within-reads
 
--- src/lib.rt:175:14
 add-w : tie.Need-add-w
 add-w c = search needs
 
--- src/lib.rt:176:9
 has-requires : tie.Need-has-requires
 has-requires c κs = pair-word (c .before .args .n) (now (c .before .args .grid)) (c .before .pre .2) (c .before .pre .3) (c .before .pre .0 .long)
 
--- src/lib.rt:177:9
 returns : tie.Need-returns
-returns c = rw (sym (c .before .has .ensures) ∙ not-true _ (c .if1 .taken))
+returns c = pair-none _ _ _ _ (sym (c .before .has .ensures) ∙ not-true _ (c .if1 .taken))
 
--- src/lib.rt:179:16
 row-at-requires : tie.Need-row-at-requires
 row-at-requires c κs = search needs
 
--- src/lib.rt:179:36
 row-at-requires-2 : tie.Need-row-at-requires-2
 row-at-requires-2 c κs = search needs
 
--- src/lib.rt:179:5
 row-within-requires : tie.Need-row-within-requires
 row-within-requires c κs =
     let start = c .before .before .before .before .before in
@@ -49,7 +35,6 @@ row-within-requires c κs =
       subst⁻¹ (λ (l : List ℕ). rowWords (start .args .n) ≤ length l) (c .row-at2 .ensures) (row-long (start .args .n) g (start .pre .2) (start .pre .0 .long)),
     )
 
--- src/lib.rt:171:1
 returns-2 : tie.Need-returns-2
 returns-2 c =
     let start = c .before .before .before .before .before .before in
@@ -60,7 +45,7 @@ returns-2 c =
     c .row-within .ensures
     ∙ ap₂ (λ (a b : List ℕ). includedBelow (rowWords n * 64) (inRow a) (inRow b)) (c .before .before .row-at .ensures) (c .before .row-at2 .ensures)
     ∙ rows-within n g q p (start .pre .0) (start .pre .3)
-    ∙ sym (ap (λ (b : Bool). _⇒_ b (includedBelow n (relationOf n g q) (relationOf n g p))) (sym (c .before .before .before .before .has .ensures) ∙ not-false _ (c .before .before .before .if1 .left)))
+    ∙ pair-some n (relationOf n g) p q (sym (c .before .before .before .before .has .ensures) ∙ not-false _ (c .before .before .before .if1 .left))
 
 pub transitive-pair-spec : {M : Type 1} → statement M
 transitive-pair-spec =

@@ -1,0 +1,39 @@
+-- Laws of the termination preorder. Assumes nothing.
+use mathlib.Core.Path.{_≡_, refl, ap, _∙_}
+use mathlib.Core.Bool.{Bool, true, false, _&&_}
+use mathlib.Core.List.{List}
+use Prim.Native.Nat.{ℕ, zero, suc, _<_}
+use lib.Dec.{eqb, ltb}
+use lib.ListN.{getD, replicate}
+use borrow.Author.Tests.{lt-ltb}
+use Rattle.lts.specs.Bounded.{_⇒_}
+use Rattle.lts.specs.System.{Lts, terminationPreorder}
+use Rattle.lts.specs.Table.{markedSet, withTerminating}
+use Rattle.relation.specs.Matrix.{matrixOf}
+use Rattle.relation.proofs.Matrices.{matrixOf-cong}
+
+-- the relation that is written is the termination preorder of any system with these marks
+pub termination-of : (n : ℕ) (marks : List ℕ) (L : Lts) → (λ p q. markedSet n marks p ⇒ markedSet n marks q) ≡ terminationPreorder (withTerminating (markedSet n marks) L)
+unfolding terminationPreorder withTerminating
+termination-of n marks L = refl
+
+pub marked-at : (n : ℕ) (marks : List ℕ) (p : ℕ) → p < n → markedSet n marks p ≡ eqb (getD marks p 0) 1
+unfolding markedSet
+marked-at n marks p h = ap (λ (b : Bool). b && eqb (getD marks p 0) 1) (lt-ltb p n h)
+
+-- with no mark every pair is related
+none-marked : (n k p : ℕ) → markedSet n (replicate k 0) p ≡ false
+unfolding markedSet
+none-marked n k p = ap (λ (x : ℕ). ltb p n && eqb x 1) (zeros k p) ∙ never (ltb p n)
+  where
+    zeros : (k p : ℕ) → getD (replicate {A = ℕ} k 0) p 0 ≡ 0
+    zeros zero p = refl
+    zeros (suc k) zero = refl
+    zeros (suc k) (suc p) = zeros k p
+
+    never : (b : Bool) → b && false ≡ false
+    never true = refl
+    never false = refl
+
+pub all-pairs : (n k : ℕ) → matrixOf n (λ p q. markedSet n (replicate k 0) p ⇒ markedSet n (replicate k 0) q) ≡ matrixOf n (λ p q. true)
+all-pairs n k = matrixOf-cong n _ _ (λ p q hp hq. ap (λ (b : Bool). b ⇒ markedSet n (replicate k 0) q) (none-marked n k p))
