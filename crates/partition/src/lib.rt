@@ -72,7 +72,7 @@ pub fn collect_pending(
     n: usize,
     list: &mut [u16; 256],
 ) -> usize
-    requires { ⌜ (n ≤ 256) × Matrix n (now related) × Matrix n (now viewed) × Matrix n (now blocks) ⌝ }
+    requires { ⌜ (n ≤ 256) × Matrix n (now related) × Matrix n (now viewed) × Matrix n (now blocks) × (n ≤ length (now list)) ⌝ }
     ensures { λ r. ⌜ r ≡ length (passing n (pendingIn n (relationOf n (now (related .entry))) (relationOf n (now (viewed .entry))) (relationOf n (now (blocks .entry))))) ⌝ }
     ensures { λ r. ⌜ now (list .exit) ≡ passing n (pendingIn n (relationOf n (now (related .entry))) (relationOf n (now (viewed .entry))) (relationOf n (now (blocks .entry)))) ++ drop r (now (list .entry)) ⌝ }
 {
@@ -90,16 +90,22 @@ pub fn collect_pending(
     c
 }
 
+fn wide(x: u16) -> usize
+    ensures { λ r. ⌜ r ≡ x ⌝ }
+{
+    x as usize
+}
+
 // The pending representative that number `step` of the schedule chooses, or 0 when the schedule is used up.
 pub fn next_block(list: &[u16; 256], c: usize, schedule: &[u16], step: usize) -> usize
     requires { ⌜ (0 < c) × (c ≤ 256) ⌝ }
     ensures { λ r. ⌜ r ≡ getD (now (list .entry)) (getD (now (schedule .entry)) step 0 % c) 0 ⌝ }
 {
     if step < schedule.len() {
-        let at = (schedule[step] as usize) % c;
-        return list[at] as usize;
+        let at = wide(schedule[step]) % c;
+        return wide(list[at]);
     }
-    list[0] as usize
+    wide(list[0])
 }
 
 // How many blocks there are: the states that are their block's lowest.
