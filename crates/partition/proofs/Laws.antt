@@ -1,17 +1,19 @@
 -- Laws of columns, blocks and representatives of a bit matrix. Assumes nothing.
-use mathlib.Core.Path.{_≡_, refl, sym, ap, ap₂, _∙_, subst⁻¹}
+use mathlib.Core.Path.{_≡_, refl, sym, ap, ap₂, _∙_, subst, subst⁻¹}
 use mathlib.Core.Bool.{Bool, true, false, cond, _&&_, _||_, xor}
 use mathlib.Core.List.{List, _++_, append-nil}
 use mathlib.Core.Logic.{⊎-elim}
-use Prim.Native.Nat.{ℕ, zero, suc, _+_, _*_, _≤_, _<_}
-use native.Mathlib.Nat.{eq-or-lt-of-le}
+use Prim.Native.Nat.{ℕ, _+_, _*_, _%_, _≤_, _<_}
+use native.Mathlib.Nat.{eq-or-lt-of-le, mod-lt}
 use native.Mathlib.Omega.{arith}
-use lib.Dec.{eqb, ltb}
-use lib.ListN.{length, drop, drop-of-length-le, replicate, length-append, length-drop}
+use lib.Dec.{T, eqb}
+use lib.ListN.{length, getD, List·getD-append, drop, drop-of-length-le, replicate, length-append, length-drop}
 use borrow.Author.Tests.{lt-ltb, le-ltb, eq-eqb, ne-eqb}
 use Rattle.lts.specs.Bounded.{anyBelow, sumBelow, countBelow, listBelow, passing, lowest}
 use Rattle.lts.specs.System.{Lts, anyState}
-use Rattle.lts.specs.Refinement.{Relations, block, representative, isRepresentative, pending, blockCount, representatives}
+use Rattle.lts.specs.Refinement.{Relations, block, representative, isRepresentative, pending, chosen, blockCount, representatives}
+use Rattle.lts.proofs.Bounded.{any-iff}
+use Rattle.lts.proofs.Count.{passing-at, passing-some}
 use Rattle.relation.specs.Matrix.{wordOf, wordAt, inRow, rowOf, rowWords, statesBelow, relationOf, matrixOf, Matrix, setRow, rowsOf}
 use Rattle.relation.proofs.Bounded.{lt-or-ge, any-cong, sum-cong, length-listBelow, listBelow-cong, lowest-cong}
 use Rattle.relation.proofs.Rows.{rowOf-cong, inRow-of}
@@ -132,3 +134,22 @@ module _ (L : Lts) (s : Relations) (n : ℕ) (K W P : ℕ → ℕ → Bool) (siz
   pub names-are : listBelow n (λ p. lowest n (P p)) ≡ representatives L (s .related)
   unfolding representatives
   names-are = listBelow-cong n _ _ representative-is ∙ ap (λ (k : ℕ). listBelow k (representative L (s .related))) (sym size)
+
+  -- something is pending, or nothing is, by the number of listed representatives
+  pub some-pending : 0 < length (passing n (pendingIn n K W P)) → T (anyState L (pending L s))
+  unfolding anyState
+  some-pending h =
+      let at = passing-at (L .states) (pending L s) 0 (subst (λ (l : List ℕ). 0 < length l) passing-pending h) in
+      any-iff (L .states) (pending L s) .1 (getD (passing (L .states) (pending L s)) 0 0, at .0, at .1)
+
+  pub none-pending : length (passing n (pendingIn n K W P)) ≡ 0 → T (anyState L (pending L s)) → ⊥
+  unfolding anyState
+  none-pending e t = omega (arith, passing-some (L .states) (pending L s) t, ap length passing-pending)
+
+  -- the representative at position e mod c of a list that begins with the c pending ones
+  pub chosen-is : (e : ℕ) (rest : List ℕ) → 0 < length (passing n (pendingIn n K W P))
+      → getD (passing n (pendingIn n K W P) ++ rest) (e % length (passing n (pendingIn n K W P))) 0 ≡ chosen L e s
+  unfolding chosen
+  chosen-is e rest h =
+      List·getD-append (passing n (pendingIn n K W P)) rest 0 (e % length (passing n (pendingIn n K W P))) (mod-lt e h)
+      ∙ ap (λ (l : List ℕ). getD l (e % length l) 0) passing-pending
