@@ -52,7 +52,7 @@ row-meets-requires c κs = let start = c .before .before .before .before .before
 remove-states-requires : tie.Need-remove-states-requires Inv-loop μ-loop
 remove-states-requires c κs = let at = c .before .before .before .before .before .before in
     let start = at .before .before .before .before in
-    (formed-of _ _ (at .loop .inv .1), start .pre .0, c .before .before .before .before .before .loop-test .taken, search needs)
+    (formed-of _ _ (at .loop .inv .1), start .pre .0, omega arith, search needs)
 
 add-g : tie.Need-add-g Inv-loop μ-loop
 add-g c = search needs

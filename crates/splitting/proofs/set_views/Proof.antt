@@ -28,7 +28,7 @@ contains-requires c κs = search needs
 set-row-requires : tie.Need-set-row-requires Inv-loop μ-loop
 set-row-requires c κs = let at = c .before .before .before .before .before .before in
     let start = at .before .before in
-    (formed-of _ _ (at .loop .inv .1), start .pre .0 .0, c .before .before .before .before .before .loop-test .taken, record { long = search needs; clear = λ q h l. start .pre .1 q h (omega arith) })
+    (formed-of _ _ (at .loop .inv .1), start .pre .0 .0, omega arith, record { long = search needs; clear = λ q h l. start .pre .1 q h (omega arith) })
 
 add-g : tie.Need-add-g Inv-loop μ-loop
 add-g c = search needs

@@ -28,12 +28,12 @@ contains-requires c κs = search needs
 keep-states-requires : tie.Need-keep-states-requires Inv-loop μ-loop
 keep-states-requires c κs = let at = c .before .before .before .before .before .before in
     let start = at .before .before in
-    (formed-of _ _ (at .loop .inv .1), start .pre .0, c .before .before .before .before .before .loop-test .taken, search needs)
+    (formed-of _ _ (at .loop .inv .1), start .pre .0, omega arith, search needs)
 
 remove-states-requires : tie.Need-remove-states-requires Inv-loop μ-loop
 remove-states-requires c κs = let at = c .before .before .before .before .before .before in
     let start = at .before .before in
-    (formed-of _ _ (at .loop .inv .1), start .pre .0, c .before .before .before .before .before .loop-test .taken, search needs)
+    (formed-of _ _ (at .loop .inv .1), start .pre .0, omega arith, search needs)
 
 add-g : tie.Need-add-g Inv-loop μ-loop
 add-g c = search needs

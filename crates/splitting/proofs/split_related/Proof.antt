@@ -49,7 +49,7 @@ contains-requires c κs = search needs
 split-row-requires : tie.Need-split-row-requires Inv-loop μ-loop
 split-row-requires c κs = let at = c .before .before .before .before .before in
     let start = at .before .before .before in
-    (start .pre .0, formed-of _ _ (at .loop .inv .1), start .pre .2, c .before .before .before .before .loop-test .taken)
+    (start .pre .0, formed-of _ _ (at .loop .inv .1), start .pre .2, omega arith)
 
 add-g : tie.Need-add-g Inv-loop μ-loop
 add-g c = search needs
