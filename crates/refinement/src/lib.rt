@@ -3,12 +3,12 @@
 ghost use mathlib.Core.Path.{_≡_};
 ghost use Prim.Native.Nat.{_*_, _<_, _≤_};
 ghost use lib.ListN.{length};
-ghost use Rattle.lts.specs.Refinement.{block, stepOf, coarsest};
+ghost use Rattle.lts.specs.Refinement.{block, coarsest};
 ghost use Rattle.lts.specs.Table.{tableLts, Table};
 ghost use Rattle.relation.specs.Matrix.{rowWords, relationOf, matrixOf, Matrix};
 ghost use Rattle.predecessors.specs.Sources.{actionSet, removeSet};
 ghost use Rattle.splitting.specs.Split.{splitBlocks, refinedRelated};
-ghost use Rattle.refinement.specs.Engine.{relationsOf, Steady, Start};
+ghost use Rattle.refinement.specs.Engine.{acted, relationsOf, stepped, Steady, Start};
 
 // One action of a step: Rem, the split of the blocks by it, and the pairs that it refutes over the new blocks.
 fn refine_action(
@@ -38,6 +38,27 @@ fn refine_action(
     }
 }
 
+// All actions of a step, ascending.
+fn refine_actions(
+    n: usize,
+    m: usize,
+    outside: &[u64; 260],
+    inside: &[u64; 260],
+    members: &[u64; 260],
+    related: &mut [u64],
+    blocks: &mut [u64],
+)
+    requires { ⌜ (n ≤ 256) × (m ≤ 64) × Matrix n (now related) × Matrix n (now blocks) ⌝ }
+    ensures { λ _. ⌜ now (related .exit) ≡ matrixOf n (acted n (now (outside .entry)) (now (inside .entry)) (now (members .entry)) m (now (related .entry)) (now (blocks .entry)) .related) ⌝ }
+    ensures { λ _. ⌜ now (blocks .exit) ≡ matrixOf n (acted n (now (outside .entry)) (now (inside .entry)) (now (members .entry)) m (now (related .entry)) (now (blocks .entry)) .blocks) ⌝ }
+{
+    let mut a = 0;
+    while a < m {
+        refine_action(n, a + 1, outside, inside, members, related, blocks);
+        a += 1;
+    }
+}
+
 // The refinement step of the block of b.
 fn refine_step(
     n: usize,
@@ -54,9 +75,9 @@ fn refine_step(
     requires { ⌜ Table n m k (now sources) (now actions) (now targets) × Matrix n (now related) × Matrix n (now viewed) × (b < n) ⌝ }
     requires { ⌜ now blocks ≡ matrixOf n (block (relationOf n (now related))) ⌝ }
     requires { ⌜ Steady (tableLts n m k (now sources) (now actions) (now targets)) b (relationsOf n (now related) (now viewed)) ⌝ }
-    ensures { λ _. ⌜ now (related .exit) ≡ matrixOf n (stepOf (tableLts n m k (now (sources .entry)) (now (actions .entry)) (now (targets .entry))) b (relationsOf n (now (related .entry)) (now (viewed .entry))) .related) ⌝ }
-    ensures { λ _. ⌜ now (viewed .exit) ≡ matrixOf n (stepOf (tableLts n m k (now (sources .entry)) (now (actions .entry)) (now (targets .entry))) b (relationsOf n (now (related .entry)) (now (viewed .entry))) .viewed) ⌝ }
-    ensures { λ _. ⌜ now (blocks .exit) ≡ matrixOf n (block (stepOf (tableLts n m k (now (sources .entry)) (now (actions .entry)) (now (targets .entry))) b (relationsOf n (now (related .entry)) (now (viewed .entry))) .related)) ⌝ }
+    ensures { λ _. ⌜ now (related .exit) ≡ matrixOf n (stepped n m k (now (sources .entry)) (now (actions .entry)) (now (targets .entry)) b (now (related .entry)) (now (viewed .entry)) .related) ⌝ }
+    ensures { λ _. ⌜ now (viewed .exit) ≡ matrixOf n (stepped n m k (now (sources .entry)) (now (actions .entry)) (now (targets .entry)) b (now (related .entry)) (now (viewed .entry)) .viewed) ⌝ }
+    ensures { λ _. ⌜ now (blocks .exit) ≡ matrixOf n (block (stepped n m k (now (sources .entry)) (now (actions .entry)) (now (targets .entry)) b (now (related .entry)) (now (viewed .entry)) .related)) ⌝ }
 {
     let members = splitting::row_set(blocks, n, b);
     let inside = splitting::row_set(related, n, b);
@@ -66,19 +87,15 @@ fn refine_step(
     let into_outside = predecessors::sources_into(k, sources, actions, targets, &outside);
     let into_inside = predecessors::sources_into(k, sources, actions, targets, &inside);
     let into_members = predecessors::sources_into(k, sources, actions, targets, &members);
-    let mut a = 0;
-    while a < m {
-        refine_action(
-            n,
-            a + 1,
-            &into_outside,
-            &into_inside,
-            &into_members,
-            related,
-            blocks,
-        );
-        a += 1;
-    }
+    refine_actions(
+        n,
+        m,
+        &into_outside,
+        &into_inside,
+        &into_members,
+        related,
+        blocks,
+    );
 }
 
 // The whole run: K, V and the blocks at its end, and the number of steps made.
