@@ -102,7 +102,8 @@ pub fn next_block(list: &[u16; 256], c: usize, schedule: &[u16], step: usize) ->
     ensures { λ r. ⌜ r ≡ getD (now (list .entry)) (getD (now (schedule .entry)) step 0 % c) 0 ⌝ }
 {
     if step < schedule.len() {
-        let at = wide(schedule[step]) % c;
+        let e = wide(schedule[step]);
+        let at = e % c;
         return wide(list[at]);
     }
     wide(list[0])
@@ -135,7 +136,8 @@ pub fn write_names(blocks: &[u64], n: usize, names: &mut [u16])
     let w = (n + 63) / 64;
     let mut p = 0;
     while p < n {
-        names[p] = relation::lowest_state(relation::row_at(blocks, n, p), w) as u16;
+        let low = relation::lowest_state(relation::row_at(blocks, n, p), w);
+        names[p] = low as u16;
         p += 1;
     }
 }
