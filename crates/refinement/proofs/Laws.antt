@@ -90,18 +90,6 @@ module _ (L : Lts) (wf : WellFormed L) (preorder : Rel) (pre : Preorder L preord
     pub state-steady : (b : ℕ) → Steady L b s
     state-steady b = record { during = during L wf preorder s inv b }
 
-    -- the block that number e of the schedule chooses, from the list of the pending ones
-    pub some-pending : (c : ℕ) → c ≡ length (passing n (pending L s)) → 0 < c → T (anyState L (pending L s))
-    unfolding anyState
-    some-pending c e l =
-        let f = pending L s in
-        let a = passing-at n f 0 (subst (λ (x : ℕ). 0 < x) e l) in
-        any-iff n f .1 (getD (passing n f) 0 0, a .0, a .1)
-
-    pub none-pending : (c : ℕ) → c ≡ length (passing n (pending L s)) → (0 < c → ⊥) → T (anyState L (pending L s)) → ⊥
-    unfolding anyState
-    none-pending c e f t = f (subst (λ (x : ℕ). 0 < x) (sym e) (passing-some n (pending L s) t))
-
     pub chosen-below : (e : ℕ) → T (anyState L (pending L s)) → chosen L e s < n
     unfolding chosen anyState
     chosen-below e t = passing-at n (pending L s) (e % length (passing n (pending L s))) (mod-lt e (passing-some n (pending L s) t)) .0

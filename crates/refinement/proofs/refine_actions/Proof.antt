@@ -70,9 +70,10 @@ same-length-2 c = ap length (c .before .loop .inv .2) ∙ length-matrixOf _ _ �
 returns : tie.Need-returns Inv-loop μ-loop
 returns c =
     let a = c .before .before .before .before .args in
-    let last : c .before .loop .a ≡ a .m = omega arith in
-    (c .before .loop .inv .1 ∙ ap (λ (j : ℕ). matrixOf (a .n) (acted (a .n) (now (a .outside)) (now (a .inside)) (now (a .members)) j (now (a .related)) (now (a .blocks)) .related)) last,
-    c .before .loop .inv .2 ∙ ap (λ (j : ℕ). matrixOf (a .n) (acted (a .n) (now (a .outside)) (now (a .inside)) (now (a .members)) j (now (a .related)) (now (a .blocks)) .blocks)) last)
+    let last : c .before .loop .a ≡ a .m = omega arith in (
+      c .before .loop .inv .1 ∙ ap (λ (j : ℕ). matrixOf (a .n) (acted (a .n) (now (a .outside)) (now (a .inside)) (now (a .members)) j (now (a .related)) (now (a .blocks)) .related)) last,
+      c .before .loop .inv .2 ∙ ap (λ (j : ℕ). matrixOf (a .n) (acted (a .n) (now (a .outside)) (now (a .inside)) (now (a .members)) j (now (a .related)) (now (a .blocks)) .blocks)) last,
+    )
 
 pub refine-actions-spec : {M : Type 1} → statement M
 refine-actions-spec =
