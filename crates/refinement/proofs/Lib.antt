@@ -1,0 +1,4 @@
+pub mod Laws
+pub mod Actions
+pub mod Steps
+pub mod Loop

@@ -1,0 +1,112 @@
+-- One refinement step on matrices is the step of the refinement rule on what they hold.
+use Prim.Native.Nat.{ℕ, _*_, _≤_, _<_}
+use native.Mathlib.Omega.{arith}
+use mathlib.Core.Path.{_≡_, refl, sym, _∙_, ap, ap₂}
+use mathlib.Core.Bool.{Bool, false, cond, not, _&&_}
+use mathlib.Core.List.{List, _++_}
+use lib.Dec.{T}
+use lib.ListN.{drop}
+use Rattle.lts.specs.System.{Set, Rel, Lts, WellFormed, into}
+use Rattle.lts.specs.Refinement.{Relations, block, remove, refine, eachAction, stepOf}
+use Rattle.lts.specs.Table.{tableLts, Table}
+use Rattle.lts.proofs.Step.{block-iff}
+use Rattle.lts.proofs.Table.{table-formed}
+use Rattle.relation.specs.Matrix.{inRow, rowOf, statesBelow, relationOf, matrixOf}
+use Rattle.relation.proofs.Rows.{inRow-of, inRow-written}
+use Rattle.relation.proofs.Matrices.{states-in, states-out, relation-of, matrixOf-cong}
+use Rattle.predecessors.specs.Sources.{sourcesInto, actionSet, removeSet}
+use Rattle.predecessors.proofs.Laws.{action-set-into, remove-set-is}
+use Rattle.predecessors.proofs.Tables.{into-cong}
+use Rattle.splitting.proofs.Laws.{hit-free}
+use Rattle.refinement.specs.Engine.{heldBy, relationsOf, acted, Steady}
+use Rattle.refinement.proofs.Laws.{held-at, block-held}
+use Rattle.refinement.proofs.Actions.{acted-related, acted-blocks}
+
+-- a row of states holds nothing from n on
+pub row-out : (n : ℕ) (S : Set) (row : List ℕ) → row ≡ rowOf 4 (statesBelow n S) → (q : ℕ) → n ≤ q → q < 256 → inRow row q ≡ false
+row-out n S row e q l h = ap (λ (l : List ℕ). inRow l q) e ∙ inRow-of 4 (statesBelow n S) q h ∙ states-out n S q l
+
+-- N, from the rows of V and K
+pub outside-row : (n : ℕ) (S : Set) (whole inside outside : List ℕ) → n ≤ 256 → whole ≡ rowOf 4 (statesBelow n S)
+    → outside ≡ rowOf 4 (λ q. inRow whole q && not (inRow inside q)) ++ drop 4 whole → (q : ℕ) → q < n → inRow outside q ≡ S q && not (inRow inside q)
+outside-row n S whole inside outside small e d q h =
+    ap (λ (l : List ℕ). inRow l q) d ∙ inRow-written 4 (λ q. inRow whole q && not (inRow inside q)) (drop 4 whole) q below
+    ∙ ap (λ (b : Bool). b && not (inRow inside q)) (ap (λ (l : List ℕ). inRow l q) e ∙ inRow-of 4 (statesBelow n S) q below ∙ states-in n S q h)
+  where
+    below : q < 4 * 64
+    below = omega (arith, small, h)
+
+module _ (n m k : ℕ) (sources actions targets : List ℕ) (tab : Table n m k sources actions targets)
+    (b : ℕ) (low : b < n) (related viewed blocks : List ℕ) (blocks-is : blocks ≡ matrixOf n (block (relationOf n related)))
+    (members inside outside : List ℕ)
+    (members-is : members ≡ rowOf 4 (statesBelow n (relationOf n blocks b))) (inside-is : inside ≡ rowOf 4 (statesBelow n (relationOf n related b)))
+    (outside-is : (q : ℕ) → q < n → inRow outside q ≡ relationOf n viewed b q && not (inRow inside q)) where
+  abbrev L : Lts
+  L = tableLts n m k sources actions targets
+
+  abbrev s : Relations
+  s = relationsOf n related viewed
+
+  abbrev B : Set
+  B = block (s .related) b
+
+  abbrev Y : Set
+  Y = s .related b
+
+  abbrev N : Set
+  N q = s .viewed b q && not (s .related b q)
+
+  row-in : (row : List ℕ) (S : Set) → row ≡ rowOf 4 (statesBelow n S) → (q : ℕ) → q < n → inRow row q ≡ S q
+  row-in row S e q h = ap (λ (l : List ℕ). inRow l q) e ∙ inRow-of 4 (statesBelow n S) q (let l = tab .states in omega (arith, l, h)) ∙ states-in n S q h
+
+  in-members : (q : ℕ) → q < n → inRow members q ≡ B q
+  unfolding relationsOf
+  in-members q h = row-in members (relationOf n blocks b) members-is q h ∙ relation-of n _ blocks-is b q low h ∙ block-held n related b q low h
+
+  in-inside : (q : ℕ) → q < n → inRow inside q ≡ Y q
+  unfolding relationsOf
+  in-inside q h = row-in inside (relationOf n related b) inside-is q h ∙ sym (held-at n related b q low h)
+
+  in-outside : (q : ℕ) → q < n → inRow outside q ≡ N q
+  unfolding relationsOf
+  in-outside q h = outside-is q h ∙ ap₂ (λ (x y : Bool). x && not y) (sym (held-at n viewed b q low h)) (in-inside q h)
+
+  -- V
+  pub step-viewed : (viewed′ : List ℕ) → viewed′ ≡ matrixOf n (λ g h. cond (inRow members g) (inRow inside h) (relationOf n viewed g h))
+      → viewed′ ≡ matrixOf n (stepOf L b s .viewed)
+  unfolding stepOf relationsOf
+  step-viewed viewed′ e = e ∙ matrixOf-cong n _ _ (λ g h l u. rw (in-members g l, in-inside h u, held-at n viewed g h l u))
+
+  -- K and its blocks
+  module _ (steady : Steady L b s) (into-outside into-inside into-members : List ℕ)
+      (outside-into : into-outside ≡ rowOf 260 (sourcesInto k sources actions targets (inRow outside)))
+      (inside-into : into-inside ≡ rowOf 260 (sourcesInto k sources actions targets (inRow inside)))
+      (members-into : into-members ≡ rowOf 260 (sourcesInto k sources actions targets (inRow members))) where
+    below : (q : ℕ) → q < n → q < 256
+    below q h = let l = tab .states in omega (arith, l, h)
+
+    rem : (a q : ℕ) → a ≤ m → q < n → removeSet into-outside into-inside a q ≡ remove L a Y N q
+    unfolding remove
+    rem a q l h =
+        remove-set-is tab (inRow inside) (inRow outside) a q outside-into inside-into (let u = tab .labels in omega (arith, l, u)) (below q h)
+        ∙ ap₂ (λ (x y : Bool). x && not y) (into-cong tab (inRow outside) N in-outside a q) (into-cong tab (inRow inside) Y in-inside a q)
+
+    hits : (a q : ℕ) → a ≤ m → q < n → actionSet into-members a q ≡ into L a B q
+    hits a q l h =
+        action-set-into tab (inRow members) a q members-into (let u = tab .labels in omega (arith, l, u)) (below q h)
+        ∙ into-cong tab (inRow members) B in-members a q
+
+    free : (a x : ℕ) → T (into L a B x) → T (remove L a Y N x) → ⊥
+    free a = hit-free (table-formed n m k sources actions targets tab) B Y N a (λ q t. block-iff (s .related) b q .0 t .0)
+
+    pub step-related : (related′ : List ℕ) → related′ ≡ matrixOf n (acted n into-outside into-inside into-members m related blocks .related)
+        → related′ ≡ matrixOf n (stepOf L b s .related)
+    unfolding stepOf tableLts relationsOf
+    step-related related′ e = e ∙ acted-related L B Y N (s .related) into-outside into-inside into-members _ (steady .during) free rem hits
+        (λ p q l u. sym (held-at n related p q l u)) (λ p q l u. relation-of n _ blocks-is p q l u ∙ block-held n related p q l u)
+
+    pub step-blocks : (blocks′ : List ℕ) → blocks′ ≡ matrixOf n (acted n into-outside into-inside into-members m related blocks .blocks)
+        → blocks′ ≡ matrixOf n (block (stepOf L b s .related))
+    unfolding stepOf tableLts relationsOf
+    step-blocks blocks′ e = e ∙ acted-blocks L B Y N (s .related) into-outside into-inside into-members _ (steady .during) free rem hits
+        (λ p q l u. sym (held-at n related p q l u)) (λ p q l u. relation-of n _ blocks-is p q l u ∙ block-held n related p q l u)

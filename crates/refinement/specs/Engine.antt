@@ -1,0 +1,59 @@
+-- What the engine's own functions say of each other: relations held by matrices.
+use Prim.Native.Nat.{ℕ, zero, suc, _<_}
+use mathlib.Core.Path.{_≡_}
+use mathlib.Core.Bool.{not, _&&_}
+use mathlib.Core.List.{List}
+use lib.Dec.{T}
+use Rattle.lts.specs.Bounded.{restrict}
+use Rattle.lts.specs.System.{Rel, Lts}
+use Rattle.lts.specs.Refinement.{Relations, block, refine, eachAction, stepOf}
+use Rattle.lts.specs.Table.{tableLts}
+use Rattle.lts.proofs.Refine.{Blocks}
+use Rattle.lts.proofs.Run.{Reached}
+use Rattle.predecessors.specs.Sources.{actionSet, removeSet}
+use Rattle.splitting.specs.Split.{splitBlocks, refinedRelated}
+use Rattle.relation.specs.Matrix.{relationOf, matrixOf, Matrix}
+
+-- the relations that the matrices of K and V hold
+unfoldable pub heldBy : ℕ → List ℕ → Rel
+heldBy n g = restrict n (relationOf n g)
+
+unfoldable pub relationsOf : ℕ → List ℕ → List ℕ → Relations
+relationsOf n related viewed = record { related = heldBy n related; viewed = heldBy n viewed }
+
+-- the step of b's block on what the matrices hold
+abbrev pub stepped : ℕ → ℕ → ℕ → List ℕ → List ℕ → List ℕ → ℕ → List ℕ → List ℕ → Relations
+stepped n m k sources actions targets b related viewed = stepOf (tableLts n m k sources actions targets) b (relationsOf n related viewed)
+
+-- K and its blocks after the actions 1 to j by rows, from the sets "into N", "into Y" and "into B" of every action
+pub record Refined : Type 0 where
+  pub related : Rel
+  pub blocks : Rel
+
+unfoldable pub actionsTo : ℕ → List ℕ → List ℕ → List ℕ → ℕ → Refined → Refined
+actionsTo n outside inside members zero r = r
+actionsTo n outside inside members (suc j) r =
+    let s = actionsTo n outside inside members j r in
+    let Rem = removeSet outside inside (suc j) in
+    record { related = refinedRelated n Rem (actionSet members (suc j)) (s .related) (s .blocks); blocks = splitBlocks Rem (s .blocks) }
+
+abbrev pub acted : ℕ → List ℕ → List ℕ → List ℕ → ℕ → List ℕ → List ℕ → Refined
+acted n outside inside members j related blocks =
+    actionsTo n outside inside members j (record { related = relationOf n related; blocks = relationOf n blocks })
+
+-- K has blocks after each action of the step of p's block
+pub record Steady (L : Lts) (p : ℕ) (s : Relations) : Type 0 where
+  pub during : (j : ℕ) → Blocks (λ g. g < L .states) (λ g h. T (eachAction j (refine L (block (s .related) p) (s .related p) (λ q. s .viewed p q && not (s .related p q))) (s .related) g h))
+
+-- Where the engine's loop stands after some steps: the matrices of K, V and the blocks of K hold what the run has reached.
+pub record State (L : Lts) (preorder : Rel) (schedule : List ℕ) (steps : ℕ) (related viewed blocks : List ℕ) : Type 0 where
+  pub related-is : related ≡ matrixOf (L .states) (heldBy (L .states) related)
+  pub viewed-is : viewed ≡ matrixOf (L .states) (heldBy (L .states) viewed)
+  pub blocks-is : blocks ≡ matrixOf (L .states) (block (heldBy (L .states) related))
+  pub reached : Reached L preorder schedule steps (relationsOf (L .states) related viewed)
+
+-- a matrix that is a preorder
+pub record Start (n : ℕ) (g : List ℕ) : Type 0 where
+  pub matrix : Matrix n g
+  pub loop : (p : ℕ) → p < n → T (relationOf n g p p)
+  pub chain : (p q r : ℕ) → p < n → q < n → r < n → T (relationOf n g p q) → T (relationOf n g q r) → T (relationOf n g p r)

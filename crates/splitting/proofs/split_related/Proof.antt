@@ -1,0 +1,95 @@
+use borrow.Author.Tests.{not-true, not-false}
+use mathlib.Core.Path.{_≡_, refl, sym, ap, _∙_}
+use mathlib.Core.Logic.{⊎-elim}
+use Rattle.lts.specs.System.{Set, Rel}
+use mathlib.Core.Bool.{Bool, true, false, not, _&&_}
+use Prim.Native.Nat.{ℕ, _≤_, _<_, _-_}
+use native.Mathlib.Omega.{arith}
+use lib.ListN.{length}
+use denote.Ref.{now}
+use Rattle.relation.specs.Matrix.{inRow, relationOf, matrixOf, rowsOf}
+use Rattle.relation.proofs.Matrices.{length-matrixOf, matrix-relation, formed-of, done-none, done-all}
+use Rattle.splitting.specs.Split.{splitRelated}
+use Rattle.splitting.proofs.Rows.{row-left, row-without}
+use borrow.Author.Needs.{needs}
+use Rattle.splitting.proofs.split_related.Statement.{statement}
+use Rattle.splitting.proofs.split_related.Tie as tie
+
+-- a row outside Rem, and one in it
+module _ (Rem : Set) (K P : Rel) (g q : ℕ) where
+  outside : Rem g ≡ false → K g q && not (P g q && Rem q) ≡ splitRelated Rem K P g q
+  unfolding splitRelated
+  outside e = go (P g q) ∙ sym (ap (λ (b : Bool). K g q && not (P g q && not b && Rem q)) e)
+    where
+      go : (p : Bool) → K g q && not (p && Rem q) ≡ K g q && not (p && true && Rem q)
+      go true = refl
+      go false = refl
+
+  inside : Rem g ≡ true → K g q ≡ splitRelated Rem K P g q
+  unfolding splitRelated
+  inside e = go (K g q) (P g q) ∙ sym (ap (λ (b : Bool). K g q && not (P g q && not b && Rem q)) e)
+    where
+      go : (k p : Bool) → k ≡ k && not (p && false && Rem q)
+      go true true = refl
+      go true false = refl
+      go false p = refl
+
+abbrev Inv-loop : tie.InvT-loop
+Inv-loop related₀ blocks n rem g₀ related g = (g ≤ n) × (related ≡ matrixOf n (rowsOf g (splitRelated (inRow rem) (relationOf n related₀) (relationOf n blocks)) (relationOf n related₀)))
+
+abbrev μ-loop : tie.MeasureT-loop
+μ-loop related₀ blocks n rem g₀ related g = n - g
+
+loop-holds : tie.Need-loop-holds Inv-loop μ-loop
+loop-holds c = (search needs, matrix-relation _ _ (c .before .before .pre .1) (λ j. c .before .slice-known .given j .fits) ∙ done-none _ _ _)
+
+contains-requires : tie.Need-contains-requires Inv-loop μ-loop
+contains-requires c κs = search needs
+
+split-row-requires : tie.Need-split-row-requires Inv-loop μ-loop
+split-row-requires c κs = let at = c .before .before .before .before .before in
+    let start = at .before .before .before in
+    (start .pre .0, formed-of _ _ (at .loop .inv .1), start .pre .2, omega arith)
+
+add-g : tie.Need-add-g Inv-loop μ-loop
+add-g c = search needs
+
+loop-less : tie.Need-loop-less Inv-loop μ-loop
+loop-less c = search needs
+
+loop-again : tie.Need-loop-again Inv-loop μ-loop
+loop-again c = let at = c .before .before .before .before in
+    let a = at .before .before .before .args in
+    let n = a .n in
+    let Rem = inRow (now (a .rem)) in
+    let K = relationOf n (now (a .related)) in
+    let P = relationOf n (now (a .blocks)) in
+    let g = at .loop .g in
+    let hg : g < n = c .before .before .before .loop-test .taken in (
+      search needs,
+      ⊎-elim
+          (λ w. w .5 ∙ w .2 .ensures ∙ row-without n (splitRelated Rem K P) K g (at .loop .related) hg (at .loop .inv .1) (λ q. P g q && Rem q) (λ q hq. outside Rem K P g q (sym (c .before .contains .ensures) ∙ not-true _ (w .0 .taken))))
+          (λ w. w .1 ∙ row-left n (splitRelated Rem K P) K g (at .loop .related) hg (at .loop .inv .1) (λ q hq. inside Rem K P g q (sym (c .before .contains .ensures) ∙ not-false _ (w .0 .left))))
+          (c .if1 .came),
+    )
+
+same-length : tie.Need-same-length Inv-loop μ-loop
+same-length c = ap length (c .before .loop .inv .1) ∙ length-matrixOf _ _ ∙ sym (c .before .before .before .before .pre .1 .long)
+
+returns : tie.Need-returns Inv-loop μ-loop
+returns c = c .before .loop .inv .1 ∙ done-all _ _ _ _ (omega arith)
+
+pub split-related-spec : {M : Type 1} → statement M
+split-related-spec =
+    tie.close
+    (tie.spec
+    Inv-loop
+    μ-loop
+    loop-holds
+    contains-requires
+    split-row-requires
+    add-g
+    loop-less
+    loop-again
+    same-length
+    returns)
