@@ -1,0 +1,13 @@
+pub mod Laws
+pub mod Chains
+pub mod Reader
+pub mod Vectors
+pub mod Writes
+pub mod Transitions
+pub mod Counting
+pub mod Bytes
+pub mod Outcomes
+pub mod NormalReads
+pub mod NormalTransitions
+pub mod NormalChains
+pub mod NormalLaw
