@@ -1,25 +1,24 @@
 -- Laws of chains, and of marks that are set along them.
-use Prim.Native.Nat.{ℕ, zero, suc, _+_, _*_, _-_, _≤_, _<_}
-use mathlib.Core.Path.{_≡_, refl, sym, ap, _∙_}
-use mathlib.Core.Bool.{Bool, true, false, not, _&&_, _||_, false≢true, and-eq-true-iff, and-false, and-true, and-assoc, or-false}
+use Prim.Native.Nat.{ℕ, zero, suc, _+_, _-_, _≤_, _<_}
+use mathlib.Core.Path.{_≡_, refl, sym, _∙_}
+use mathlib.Core.Bool.{Bool, true, false, not, _&&_, _||_, false≢true, and-eq-true-iff, and-true, and-assoc, or-false}
 use mathlib.Core.List.{List, [], _∷_, _++_, map}
 use native.Mathlib.Omega.{arith}
 use native.Mathlib.Numerals.{add-one, sub-one}
 use native.Mathlib.Nat.{not-suc-le-zero, le-refl}
-use borrow.Author.Tests.{eq-eqb, ne-eqb, eqb-true, leb-true, ltb-true}
+use borrow.Author.Tests.{eq-eqb, ne-eqb, leb-true, ltb-true, not-true, not-false}
 use lib.ListN.{length, getD, set, length-set, replicate, length-replicate}
 use lib.Seq.{getD-set-same, getD-set-other}
-use lib.Dec.{ltb, leb, eqb}
-use native.Mathlib.Decide.{ℕ-discrete, decLe}
-use mathlib.Core.Logic.{_⊎_, inl, inr, ⊎-elim}
-use borrow.Author.Tests.{not-true, not-false}
+use lib.Dec.{eqb}
+use native.Mathlib.Decide.{ℕ-discrete}
+use mathlib.Core.Logic.{_⊎_, ⊎-elim}
 use Rattle.encoding.specs.declared.Header.{Header}
-use Rattle.encoding.specs.declared.TransitionRecord.{TransitionRecord}
-use Rattle.lts.specs.Bounded.{allBelow}
-use Rattle.encoding.specs.Encoding.{stateFits, transitionFits, statesFit, transitionsFit, stateRecord, transitionRecord, walk, chain, reached, successor, chainsFit}
-use Rattle.encoding.specs.Encoding.{member, distinct}
-use Rattle.encoding.specs.Marks.{Sized, Recorded, FirstKnown, TransitionKnown, fresh, marked}
-use Rattle.encoding.proofs.Laws.{all-at}
+use Rattle.lts.specs.Bounded.{allBelow, concatBelow}
+use Rattle.encoding.specs.Encoding.{stateFits, transitionFits, statesFit, transitionsFit, walk, chain, reached, successor, chainsFit, member, distinct}
+use Rattle.encoding.specs.Records.{stateRecord, transitionRecord}
+use Rattle.encoding.specs.Checked.{Recorded, FirstKnown, TransitionKnown}
+use Rattle.encoding.specs.Marks.{fresh, marked}
+use Rattle.encoding.proofs.Bounded.{split, all-at, all-same, Every, every-map, concat-keeps}
 
 -- ## The records of an encoding that passed rules 1 to 4
 module _ (s : List ℕ) (h : Header) (g : Recorded s h) where
@@ -111,11 +110,11 @@ pub record Reach (s : List ℕ) (h : Header) (m₀ m : List ℕ) (p : ℕ) : Typ
 
 module _ (s : List ℕ) (h : Header) (m₀ : List ℕ) where
   pub reach-none : Reach s h m₀ m₀ 0
-  unfolding reached fresh marked
+  unfolding reached concatBelow fresh marked
   reach-none = record { tests = refl; marks = refl }
 
   reached-more : (p : ℕ) → reached s h (p + 1) ≡ reached s h p ++ chain s h p
-  unfolding reached
+  unfolding reached concatBelow
   reached-more p = rw add-one
 
   one-more : {m : List ℕ} {b : Bool} (p : ℕ) → Reach s h m₀ m p → b ≡ fresh 1 m (chain s h p) → fresh 1 m₀ (reached s h (p + 1)) ≡ b
@@ -128,14 +127,10 @@ module _ (s : List ℕ) (h : Header) (m₀ : List ℕ) where
       record { tests = one-more p r e ∙ y; marks = rw (reached-more, marked-append, ← r .marks) (k y) }
 
   stays : (n p : ℕ) → p ≤ n → fresh 1 m₀ (reached s h p) ≡ false → fresh 1 m₀ (reached s h n) ≡ false
-  unfolding reached
+  unfolding reached concatBelow
   stays zero p l f = let e : p ≡ 0 = omega arith in rw e at f
   stays (suc n) p l f =
-      ⊎-elim (λ (k : p ≤ n). rw (fresh-append, stays n p k f)) (λ (k : p ≡ suc n). rw k at f) (split (decLe p n))
-    where
-      split : Dec (p ≤ n) → (p ≤ n) ⊎ (p ≡ suc n)
-      split (yes k) = inl k
-      split (no k) = inr (omega (arith, k))
+      ⊎-elim (λ (k : p ≤ n). rw (fresh-append, stays n p k f)) (λ (k : p ≡ suc n). rw k at f) (split n p l)
 
   pub reach-stop : {m : List ℕ} {b : Bool} {X : Type 0} (n p : ℕ) → p < n → Reach s h m₀ m p → b ≡ fresh 1 m (chain s h p) → not b ≡ true
       → (false ≡ fresh 1 m₀ (reached s h n)) × (false ≡ true → X)
@@ -146,10 +141,9 @@ module _ (s : List ℕ) (h : Header) (m₀ : List ℕ) where
       → (true ≡ fresh 1 m₀ (reached s h n)) × (true ≡ true → m ≡ marked 1 m₀ (reached s h n))
   reach-done n p l g r = let e : n ≡ p = omega arith in (rw (e, r .tests), λ _. rw e (r .marks))
 
--- ## Marks from a clean encoding: no number twice
+-- ## Marks from a clean array: no number twice
 abbrev pub Below : ℕ → List ℕ → Type 0
-Below b [] = Unit {0}
-Below b (x ∷ l) = (x < b) × Below b l
+Below b l = Every (λ x. x < b) l
 
 eqb-sym : (x y : ℕ) → eqb x y ≡ eqb y x
 eqb-sym x y = go (ℕ-discrete x y)
@@ -234,32 +228,31 @@ module _ (v : ℕ) where
       go y (no n) = rw (getD-set-other m x y v 0 n) (b y)
 
 -- ## The places that are marked lie in the arrays
-below-append : (b : ℕ) (k l : List ℕ) → Below b k → Below b l → Below b (k ++ l)
-below-append b [] l p q = q
-below-append b (x ∷ k) l p q = (p .0, below-append b k l (p .1) q)
-
 module _ (s : List ℕ) (h : Header) (g : Recorded s h) where
-  walk-below : (fuel j : ℕ) → j ≤ h .transitions → Below 1025 (walk s h fuel j)
+  -- what every record keeps, those on chains do
+  walk-all : (P : ℕ → Type 0) → ((j : ℕ) → 1 ≤ j → j ≤ h .transitions → P j) → (fuel j : ℕ) → j ≤ h .transitions → Every P (walk s h fuel j)
   unfolding walk
-  walk-below zero j l = tt
-  walk-below (suc fuel) zero l = tt
-  walk-below (suc fuel) (suc j) l =
-      (omega (arith, g .sized .bounds), walk-below fuel _ (transition-known s h g (suc j) (omega arith) l .next))
+  walk-all P k zero j l = tt
+  walk-all P k (suc fuel) zero l = tt
+  walk-all P k (suc fuel) (suc j) l =
+      (k (suc j) (omega arith) l, walk-all P k fuel _ (transition-known s h g (suc j) (omega arith) l .next))
 
-  pub successors-below : (fuel j : ℕ) → j ≤ h .transitions → Below 16640 (map (successor s h) (walk s h fuel j))
-  unfolding walk successor
-  successors-below zero j l = tt
-  successors-below (suc fuel) zero l = tt
-  successors-below (suc fuel) (suc j) l =
-      let r = transition-known s h g (suc j) (omega arith) l in
-      (omega (arith, g .sized .bounds), successors-below fuel _ (r .next))
+  pub chain-all : (P : ℕ → Type 0) → ((j : ℕ) → 1 ≤ j → j ≤ h .transitions → P j) → (p : ℕ) → p < h .states → Every P (chain s h p)
+  unfolding chain
+  chain-all P k p l = walk-all P k _ _ (first-known s h g p l .bound)
 
-  pub reached-below : (p : ℕ) → p ≤ h .states → Below 1025 (reached s h p)
-  unfolding reached chain
-  reached-below zero l = tt
-  reached-below (suc p) l =
-      below-append 1025 (reached s h p) (chain s h p) (reached-below p (omega arith))
-      (walk-below (suc (h .transitions)) (stateRecord s h p .first) (first-known s h g p l .bound))
+  pub reached-all : (P : ℕ → Type 0) → ((j : ℕ) → 1 ≤ j → j ≤ h .transitions → P j) → Every P (reached s h (h .states))
+  unfolding reached
+  reached-all P k = concat-keeps (chain s h) P (h .states) (λ p l. chain-all P k p l)
+
+  pub reached-below : Below 1025 (reached s h (h .states))
+  reached-below = reached-all (λ x. x < 1025) (λ j a b. omega (arith, g .sized .bounds))
+
+  pub successors-below : (p : ℕ) → p < h .states → Below 16640 (map (successor s h) (chain s h p))
+  unfolding successor
+  successors-below p l =
+      every-map (λ x. x < 16640) (successor s h) (chain s h p)
+      (chain-all (λ j. successor s h j < 16640) (λ j a b. let r = transition-known s h g j a b in omega (arith, g .sized .bounds)) p l)
 
 -- ## Rule 5 and rule 6 by marks
 pub zeros-at : (n i : ℕ) → _≡_ {A = ℕ} (getD (replicate n 0) i 0) 0
@@ -270,14 +263,9 @@ zeros-at (suc n) (suc i) = zeros-at n i
 pub zeros-long : (n : ℕ) → length (replicate {A = ℕ} n 0) ≡ n
 zeros-long n = length-replicate n 0
 
-all-same : (n : ℕ) (f g : ℕ → Bool) → ((i : ℕ) → f i ≡ g i) → allBelow n f ≡ allBelow n g
-unfolding allBelow
-all-same zero f g e = refl
-all-same (suc n) f g e = rw (all-same n f g e, e n)
-
 module _ (s : List ℕ) (h : Header) (g : Recorded s h) (m : List ℕ) (long : length m ≡ 1025) (zeros : (i : ℕ) → getD m i 0 ≡ 0) where
   inside : Below (length m) (reached s h (h .states))
-  inside = rw long (reached-below s h g (h .states) (le-refl _))
+  inside = rw long (reached-below s h g)
 
   pub chains-test : fresh 1 m (reached s h (h .states)) ≡ distinct (reached s h (h .states))
   chains-test = fresh-distinct 1 m _ inside (λ i e. let z = zeros i in omega (arith, z, e))
@@ -298,8 +286,7 @@ module _ (s : List ℕ) (h : Header) (g : Recorded s h) (m : List ℕ) (long : l
 
 module _ (s : List ℕ) (h : Header) (g : Recorded s h) (p : ℕ) (l : p < h .states) (m : List ℕ) (long : length m ≡ 16640) (old : (i : ℕ) → getD m i 0 ≤ p) where
   pub stamp-inside : Below (length m) (map (successor s h) (chain s h p))
-  unfolding chain
-  stamp-inside = rw long (successors-below s h g (suc (h .transitions)) (stateRecord s h p .first) (first-known s h g p l .bound))
+  stamp-inside = rw long (successors-below s h g p l)
 
   pub stamp-test : {b : Bool} → b ≡ fresh (p + 1) m (map (successor s h) (chain s h p)) → b ≡ distinct (map (successor s h) (chain s h p))
   stamp-test e = e ∙ fresh-distinct (p + 1) m _ stamp-inside (λ i f. let z = old i in omega (arith, z, f))

@@ -5,40 +5,31 @@ use mathlib.Core.Bool.{Bool, true, false, cond, _||_, _&&_}
 use mathlib.Core.List.{List, [], _∷_, _++_, map}
 use native.Mathlib.Omega.{arith}
 use native.Mathlib.Nat.{not-suc-le-zero, le-refl, zero-add, suc-add, add-zero, add-suc}
-use native.Mathlib.Numerals.{add-one, sub-one, one-add}
+use native.Mathlib.Numerals.{add-one, one-add}
 use native.Mathlib.Decide.{decLt, ℕ-discrete}
 use borrow.Author.Tests.{eq-eqb, ne-eqb, le-leb, lt-ltb}
-use lib.ListN.{length, getD, drop, length-append, drop-of-length-le}
-use lib.Seq.{getD-append-add}
+use lib.ListN.{length, drop, drop-of-length-le}
 use lib.Dec.{eqb, leb, ltb}
 use Rattle.encoding.specs.declared.Header.{Header}
-use Rattle.lts.specs.Bounded.{allBelow}
-use Rattle.encoding.specs.Encoding.{numberAt, headerOf, stateRecord, transitionRecord, transitionRecordAt, walk, chain, reached, member, distinct, statesFit, stateFits, transitionsFit, transitionFits, chainsFit, successorsFit, successor}
-use Rattle.encoding.specs.Marks.{ReadableAs, Recorded}
+use Rattle.encoding.specs.Records.{stateRecord, transitionRecord}
+use Rattle.encoding.specs.Encoding.{walk, chain, reached, member, distinct, statesFit, stateFits, transitionsFit, transitionFits, chainsFit, successor}
+use Rattle.encoding.specs.Checked.{ReadableAs, Recorded}
 use Rattle.lts.specs.System.{Lts}
 use Rattle.encoding.specs.Denotation.{ltsOf}
-use Rattle.encoding.specs.Normal.{Transition, transitionsOf, transitionsBelow, two, transitionBytes, firstIndex, nextIndex, statesBytes, transitionsBytes, normal}
+use Rattle.encoding.specs.Normal.{Transition, transitionsOf, transitionsBelow, firstIndex, nextIndex, normal, normalState, normalTransition}
+use Rattle.lts.specs.Bounded.{concatBelow}
+use Rattle.encoding.proofs.Bounded.{all-true}
 use Rattle.encoding.proofs.Chains.{walk-end}
 use Rattle.encoding.proofs.Counting.{all-count}
-use Rattle.encoding.proofs.Transitions.{lts-states, lts-actions, up-grows}
-use Rattle.encoding.proofs.Bytes.{states-length}
-use Rattle.encoding.proofs.NormalReads.{nth, transition-at, back, normal-form, normal-state, normal-length, normal-header}
-use Rattle.encoding.proofs.NormalTransitions.{every-nth, Valid, of-keeps, Below, all-keep, state-nth, later}
+use Rattle.encoding.proofs.Denotation.{lts-states, lts-actions}
+use Rattle.encoding.proofs.Order.{nth, every-nth, up-none, up-length, up-grows, Valid, of-keeps, Sourced, all-keep, state-nth, later}
+use Rattle.encoding.proofs.NormalReads.{next-small, normal-state, normal-transition, normal-length}
 
 pub drop-nth : (l : List Transition) (i : ℕ) → i < length l → drop i l ≡ nth l i ∷ drop (suc i) l
 unfolding nth
 drop-nth [] i u = absurd (not-suc-le-zero u)
 drop-nth (x ∷ l) zero u = refl
 drop-nth (x ∷ l) (suc i) u = drop-nth l i (omega arith)
-
-next-small : (j : ℕ) (x : Transition) (l : List Transition) → nextIndex j x l ≤ j + 1
-unfolding nextIndex
-next-small j x [] = omega arith
-next-small j x (y ∷ l) = go (eqb (y .source) (x .source))
-  where
-    go : (b : Bool) → cond b (j + 1) 0 ≤ j + 1
-    go true = omega arith
-    go false = omega arith
 
 first-none : (i j : ℕ) → i ≡ j → firstIndex i j ≡ 0
 unfolding firstIndex
@@ -66,11 +57,6 @@ next-le l i = go (decLt (suc i) (length l))
     go : Dec (suc i < length l) → nextIndex (suc i) (nth l i) (drop (suc i) l) ≤ length l
     go (yes k) = let z = next-small (suc i) (nth l i) (drop (suc i) l) in omega (arith, z)
     go (no k) = rw (drop-of-length-le l {i = suc i} (omega (arith, k))) (omega arith)
-
-pub all-true : (n : ℕ) (t : ℕ → Bool) → ((i : ℕ) → i < n → t i ≡ true) → allBelow n t ≡ true
-unfolding allBelow
-all-true zero t e = refl
-all-true (suc n) t e = rw (all-true n t (λ i l. e i (omega arith)), e n (le-refl _))
 
 -- ## c numbers from j on
 unfoldable pub upto : ℕ → ℕ → List ℕ
@@ -116,58 +102,23 @@ module _ (s : List ℕ) (h : Header) (g : ReadableAs s h) where
   at p = length (transitionsBelow f p)
 
   at-none : at 0 ≡ 0
-  unfolding at transitionsBelow
-  at-none = refl
+  unfolding at
+  at-none = rw up-none
 
   pub count : length all ≡ h .transitions
   unfolding all f
   count = all-count s h g
 
-  transition-byte : (i b : ℕ) → i < h .transitions → b < 6
-      → getD (normal f) (6 + 4 * h .states + 6 * i + b) 0 ≡ getD (transitionBytes (nth all i .action) (nth all i .target) (nextIndex (suc i) (nth all i) (drop (suc i) all))) b 0
-  unfolding two f all
-  transition-byte i b l k =
-      let z = states-length f (h .states) in
-      let a = two (h .states) ++ two (h .actions) ++ two (h .transitions) ++ statesBytes f (h .states) in
-      let n = length-append (two (h .states) ++ two (h .actions) ++ two (h .transitions)) (statesBytes f (h .states)) in
-      let e : 6 + 4 * h .states + 6 * i + b ≡ length a + (6 * i + b) = omega arith in
-      let c = count in
-      rw (normal-form s h g, e)
-      (getD-append-add a (transitionsBytes 1 all) (6 * i + b) 0 ∙ (rw one-add at (transition-at all 1 i b (omega arith) k)))
-
-  target-small : (i : ℕ) → i < h .transitions → nth all i .target < 256
-  unfolding f all
-  target-small i l =
-      let c = count in
-      let v = every-nth (Below f (h .states)) all i (all-keep f (h .states)) (omega arith) in
-      let t = v .valid .target in
-      let e = lts-states s h (g .header) in
-      let b = g .recorded .sized .bounds in
-      omega (arith, t, e)
-
-  pub normal-transition : (i : ℕ) → i < h .transitions → transitionRecord (normal f) h (suc i)
+  pub normal-at : (i : ℕ) → i < h .transitions → transitionRecord (normal f) h (suc i)
       ≡ record { action = nth all i .action; spare = 0; target = nth all i .target; next = nextIndex (suc i) (nth all i) (drop (suc i) all) }
-  unfolding transitionRecord transitionRecordAt numberAt transitionBytes two
-  normal-transition i l =
-      let b₀ = rw add-zero at (transition-byte i 0 l (omega arith)) in
-      let b₁ = transition-byte i 1 l (omega arith) in
-      let b₂ = transition-byte i 2 l (omega arith) in
-      let b₃ = transition-byte i 3 l (omega arith) in
-      let b₄ = transition-byte i 4 l (omega arith) in
-      let b₅ = transition-byte i 5 l (omega arith) in
-      let at₀ : suc i - 1 ≡ i = omega arith in
-      let at₃ : 6 + 4 * h .states + 6 * i + 2 + 1 ≡ 6 + 4 * h .states + 6 * i + 3 = omega arith in
-      let at₅ : 6 + 4 * h .states + 6 * i + 4 + 1 ≡ 6 + 4 * h .states + 6 * i + 5 = omega arith in
-      let v = target-small i l in
-      let n = next-small (suc i) (nth all i) (drop (suc i) all) in
-      let b = g .recorded .sized .bounds in
-      rw (at₀, at₃, at₅, b₀, b₁, b₂, b₃, b₄, b₅, back (nth all i .target) (omega arith), back (nextIndex (suc i) (nth all i) (drop (suc i) all)) (omega arith))
+  unfolding f all normalTransition
+  normal-at i l = normal-transition s h g i l
 
   -- ## The next index
   -- state p's transitions end where the next state's begin, and lie among all
   pub ends : (p : ℕ) → at (suc p) ≡ at p + length (transitionsOf f p)
-  unfolding at transitionsBelow
-  ends p = length-append (transitionsBelow f p) (transitionsOf f p)
+  unfolding at
+  ends p = up-length f p
 
   pub inside : (p : ℕ) → p < h .states → at (suc p) ≤ length all
   unfolding at all
@@ -212,7 +163,7 @@ module _ (s : List ℕ) (h : Header) (g : ReadableAs s h) where
       let n = ends p in
       let k = inside p l in
       let c = count in
-      ap (λ r. r .next) (normal-transition (at p + i) (omega arith))
+      ap (λ r. r .next) (normal-at (at p + i) (omega arith))
 
   walk-on : (p : ℕ) → p < h .states → (c fuel i : ℕ) → suc c ≤ fuel → i + suc c ≡ length (transitionsOf f p)
       → walk (normal f) h fuel (suc (at p + i)) ≡ upto (suc (at p + i)) (suc c)
@@ -227,7 +178,7 @@ module _ (s : List ℕ) (h : Header) (g : ReadableAs s h) where
       (rw (next-of p i l (omega arith), next-on p i l (omega arith), to, from) (walk-on p l c fuel (suc i) (omega arith) (omega arith)))
 
   first-is : (p : ℕ) → p < h .states → stateRecord (normal f) h p .first ≡ firstIndex (at p) (at (suc p))
-  unfolding f at
+  unfolding f at normalState
   first-is p l = ap (λ r. r .first) (normal-state s h g p l)
 
   pub chain-on : (p : ℕ) → p < h .states → chain (normal f) h p ≡ upto (suc (at p)) (length (transitionsOf f p))
@@ -243,18 +194,18 @@ module _ (s : List ℕ) (h : Header) (g : ReadableAs s h) where
           rw (first-some (at p) (at (suc p)) (omega arith), e) (rw add-zero at (walk-on p l c (suc (h .transitions)) 0 (omega arith) (omega arith)))
 
   reached-on : (p : ℕ) → p ≤ h .states → reached (normal f) h p ≡ upto 1 (at p)
-  unfolding reached
+  unfolding reached concatBelow
   reached-on zero l = sym (rw at-none (upto-none 1))
   reached-on (suc p) l = rw (reached-on p (omega arith), chain-on p l, ends p, upto-add, one-add)
 
   -- ## Rules 1 to 5
   pub state-is : (p : ℕ) → p < h .states → stateRecord (normal f) h p ≡ record { mark = cond (f .terminating p) 1 0; spare = 0; first = firstIndex (at p) (at (suc p)) }
-  unfolding f at
+  unfolding f at normalState
   state-is p l = normal-state s h g p l
 
   states-ok : statesFit (normal f) h ≡ true
   unfolding statesFit stateFits
-  states-ok = all-true (h .states) _ (λ p l. rw (state-is p l) (fits p l))
+  states-ok = all-true _ (h .states) (λ p l. rw (state-is p l) (fits p l))
     where
       fits : (p : ℕ) → p < h .states → (leb (cond (f .terminating p) 1 0) 1 && true && leb (firstIndex (at p) (at (suc p))) (h .transitions)) ≡ true
       fits p l =
@@ -266,13 +217,13 @@ module _ (s : List ℕ) (h : Header) (g : ReadableAs s h) where
 
   transitions-ok : transitionsFit (normal f) h ≡ true
   unfolding transitionsFit transitionFits f all
-  transitions-ok = all-true (h .transitions) _ (λ i l. rw (add-one, normal-transition i l) (fits i l))
+  transitions-ok = all-true _ (h .transitions) (λ i l. rw (add-one, normal-at i l) (fits i l))
     where
       fits : (i : ℕ) → i < h .transitions
           → (leb 1 (nth all i .action) && leb (nth all i .action) (h .actions) && true && ltb (nth all i .target) (h .states) && leb (nextIndex (suc i) (nth all i) (drop (suc i) all)) (h .transitions)) ≡ true
       fits i l =
           let c = count in
-          let v = every-nth (Below f (h .states)) all i (all-keep f (h .states)) (omega arith) .valid in
+          let v = every-nth (Sourced f (h .states)) all i (all-keep f (h .states)) (omega arith) .valid in
           let e = lts-states s h (g .header) in
           let d = lts-actions s h (g .header) in
           let x = next-le all i in
@@ -302,7 +253,7 @@ module _ (s : List ℕ) (h : Header) (g : ReadableAs s h) where
   unfolding chainsFit
   chains-ok =
       rw (reached-on (h .states) (le-refl _), at-end, upto-distinct 1 (h .transitions))
-      (all-true (h .transitions) _ (λ i l. upto-in (i + 1) 1 (h .transitions) (omega arith) (omega arith)))
+      (all-true _ (h .transitions) (λ i l. upto-in (i + 1) 1 (h .transitions) (omega arith) (omega arith)))
 
   -- ## Rule 6
   unfoldable pub code : Transition → ℕ
@@ -314,7 +265,7 @@ module _ (s : List ℕ) (h : Header) (g : ReadableAs s h) where
       let n = ends p in
       let k = inside p l in
       let c = count in
-      let m = normal-transition (at p + i) (omega arith) in
+      let m = normal-at (at p + i) (omega arith) in
       rw (m, state-nth f (h .states) p i l u)
 
   pub successors-on : (p : ℕ) → p < h .states → (c i : ℕ) → i + c ≡ length (transitionsOf f p)

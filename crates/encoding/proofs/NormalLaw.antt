@@ -1,32 +1,29 @@
 -- The normal form of a readable encoding is readable, with the same header, and reads as the same lts.
 use Prim.Native.Nat.{ℕ, zero, suc, _+_, _*_, _-_, _≤_, _<_}
 use mathlib.Core.Path.{_≡_, refl, sym, ap, _∙_, fun-ext}
-use mathlib.Core.Bool.{Bool, true, false, cond, not, _||_, _&&_, false≢true, and-eq-true-iff, or-true}
-use mathlib.Core.List.{List, [], _∷_, _++_, map, map-append, map-map}
+use mathlib.Core.Bool.{Bool, true, false, cond, _||_, false≢true, or-true}
+use mathlib.Core.List.{List, [], _∷_, _++_, map, map-append}
 use native.Mathlib.Omega.{arith}
-use native.Mathlib.Nat.{not-suc-le-zero, le-refl, zero-add, suc-add, add-zero, add-suc}
-use native.Mathlib.Numerals.{add-one}
+use native.Mathlib.Nat.{not-suc-le-zero, le-refl, add-zero, add-suc}
 use native.Mathlib.Decide.{decLt, decLe}
 use mathlib.Core.Logic.{_⊎_, inl, inr, ⊎-elim}
-use borrow.Author.Tests.{eq-eqb, ne-eqb, le-leb, lt-ltb, ltb-true, eqb-true, le-ltb}
-use lib.ListN.{length, drop}
-use lib.Dec.{eqb, leb, ltb}
+use borrow.Author.Tests.{eq-eqb, ne-eqb, le-leb, lt-ltb, eqb-true, le-ltb}
+use lib.ListN.{length}
+use lib.Dec.{eqb}
 use Rattle.encoding.specs.declared.Header.{Header}
 use Rattle.encoding.specs.declared.Reading.the-variants.{Readable}
-use Rattle.encoding.specs.Encoding.{headerOf, chain, inRange, member, distinct, successorsFit, successor, transitionRecord, stateRecord, readEncoding}
-use Rattle.encoding.specs.Marks.{Bounds, ReadableAs, Recorded}
-use Rattle.lts.specs.System.{Lts}
-use Rattle.encoding.specs.Denotation.{ltsOf, any}
-use Rattle.lts.specs.Bounded.{passing}
+use Rattle.encoding.specs.Encoding.{chain, inRange, member, distinct, successorsFit, successor, readEncoding}
+use Rattle.encoding.specs.Checked.{Bounds, ReadableAs}
+use Rattle.encoding.specs.Denotation.{ltsOf}
+use Rattle.lts.specs.Bounded.{passing, concatBelow}
 use Rattle.encoding.specs.Normal.{Transition, transitionsTo, transitionsBy, transitionsOf, normal}
+use Rattle.encoding.proofs.Bounded.{all-true, Every, every-append, every-more, every-map, passing-keeps}
+use Rattle.lts.proofs.Bounded.{below-suc}
 use Rattle.encoding.proofs.Reader.{pass, start, readable-of}
-use Rattle.encoding.proofs.Transitions.{lts-states, lts-actions, lts-transition, transition-member}
-use Rattle.encoding.proofs.Chains.{transition-known}
-use Rattle.encoding.proofs.Counting.{All, chain-all}
-use Rattle.encoding.proofs.Bytes.{lts-terminating}
+use Rattle.encoding.proofs.Denotation.{lts-states, lts-actions, lts-terminating, transition-member, sound}
+use Rattle.encoding.proofs.Order.{Valid, of-keeps}
 use Rattle.encoding.proofs.NormalReads.{normal-header}
-use Rattle.encoding.proofs.NormalTransitions.{Every, every-append, every-more, passing-keeps, Valid, of-keeps}
-use Rattle.encoding.proofs.NormalChains.{f, all, at, code, recorded, chains-ok, successors-on, chain-on, all-true, state-is}
+use Rattle.encoding.proofs.NormalChains.{f, code, recorded, chains-ok, successors-on, chain-on, state-is}
 
 -- ## Rising lists
 abbrev Rising : ℕ → List ℕ → Type 0
@@ -55,10 +52,6 @@ rising-shift : (c b : ℕ) (l : List ℕ) → Rising b l → Rising (c + b) (map
 rising-shift c b [] r = tt
 rising-shift c b (x ∷ l) r = (let z = r .0 in omega arith, rw add-suc at (rising-shift c (suc x) l (r .1)))
 
-every-map : (P : ℕ → Type 0) (g : ℕ → ℕ) (l : List ℕ) → Every (λ t. P (g t)) l → Every P (map g l)
-every-map P g [] e = tt
-every-map P g (x ∷ l) e = (e .0, every-map P g l (e .1))
-
 every-less : (a b : ℕ) (l : List ℕ) → a ≤ b → Every (λ x. x < a) l → Every (λ x. x < b) l
 every-less a b [] k e = tt
 every-less a b (x ∷ l) k e = (let z = e .0 in omega arith, every-less a b l k (e .1))
@@ -67,7 +60,7 @@ passing-rising : (n : ℕ) (g : ℕ → Bool) → Rising 0 (passing n g)
 unfolding passing
 passing-rising zero g = tt
 passing-rising (suc n) g =
-    rising-append 0 n (passing n g) (cond (g n) (n ∷ []) []) (omega arith) (passing-rising n g) (passing-keeps (λ x. x < n) n g (λ t l e. l)) (one (g n))
+    rising-append 0 n (passing n g) (cond (g n) (n ∷ []) []) (omega arith) (passing-rising n g) (passing-keeps g (λ x. x < n) n (λ t l e. l)) (one (g n))
   where
     one : (b : Bool) → Rising n (cond b (n ∷ []) [])
     one true = (le-refl n, tt)
@@ -81,7 +74,7 @@ module _ (s : List ℕ) (h : Header) (g : ReadableAs s h) where
   to-codes p a (x ∷ l) = rw (to-codes p a l)
 
   by-rising : (p a : ℕ) → f s h g .states ≤ 256 → Rising 0 (map (code s h g) (transitionsBy (f s h g) p a)) × Every (λ x. x < 256 * (a + 1)) (map (code s h g) (transitionsBy (f s h g) p a))
-  unfolding transitionsBy
+  unfolding transitionsBy concatBelow
   by-rising p zero n = (tt, tt)
   by-rising p (suc a) n =
       let ih = by-rising p a n in
@@ -93,7 +86,7 @@ module _ (s : List ℕ) (h : Header) (g : ReadableAs s h) where
             (rw add-zero at (rising-shift c 0 l (passing-rising (f s h g .states) (f s h g .transition p (suc a))))),
         every-append (λ x. x < 256 * (suc a + 1)) k (map (λ t. c + t) l) (every-less (256 * (a + 1)) (256 * (suc a + 1)) k (omega arith) (ih .1))
             (every-map (λ x. x < 256 * (suc a + 1)) (λ t. c + t) l
-            (passing-keeps (λ t. c + t < 256 * (suc a + 1)) (f s h g .states) (f s h g .transition p (suc a)) (λ t u e. omega arith))),
+            (passing-keeps (f s h g .transition p (suc a)) (λ t. c + t < 256 * (suc a + 1)) (f s h g .states) (λ t u e. omega arith))),
       )
 
   few-states : f s h g .states ≤ 256
@@ -108,7 +101,7 @@ module _ (s : List ℕ) (h : Header) (g : ReadableAs s h) where
 
   successors-ok : successorsFit (normal (f s h g)) h ≡ true
   unfolding successorsFit transitionsOf
-  successors-ok = all-true (h .states) _ (λ p l. rw (chain-codes p l) (rising-distinct 0 _ (by-rising p (f s h g .actions) few-states .0)))
+  successors-ok = all-true _ (h .states) (λ p l. rw (chain-codes p l) (rising-distinct 0 _ (by-rising p (f s h g .actions) few-states .0)))
 
   pub normal-readable : ReadableAs (normal (ltsOf s)) h
   unfolding f
@@ -140,34 +133,6 @@ both : (b c : Bool) → (b ≡ true → c ≡ true) → (c ≡ true → b ≡ tr
 both true c p q = sym (p refl)
 both false true p q = q refl
 both false false p q = refl
-
-any-known : (R : ℕ → Type 0) (t : ℕ → Bool) (P : Type 0) (l : List ℕ) → All R l → ((j : ℕ) → R j → t j ≡ true → P) → any t l ≡ true → P
-unfolding any
-any-known R t P [] r k e = absurd (false≢true e)
-any-known R t P (x ∷ l) r k e = go (any-known R t P l (r .1) k) (t x) refl
-  where
-    go : (any t l ≡ true → P) → (b : Bool) → t x ≡ b → P
-    go i true q = k x (r .0) q
-    go i false q = i (rw q at e)
-
-record Sound (h : Header) (p a t : ℕ) : Type 0 where
-  state : p < h .states
-  low : 1 ≤ a
-  high : a ≤ h .actions
-  target : t < h .states
-
-lts-sound : (s : List ℕ) (h : Header) → ReadableAs s h → (p a t : ℕ) → ltsOf s .transition p a t ≡ true → Sound h p a t
-lts-sound s h g p a t e =
-    let q = and-eq-true-iff _ _ .0 (sym (lts-transition s h (g .header) p a t) ∙ e) in
-    let l = ltb-true p (h .states) (q .0) in
-    any-known (λ j. (1 ≤ j) × (j ≤ h .transitions)) _ (Sound h p a t) (chain s h p) (chain-all s h (g .recorded) (λ j. (1 ≤ j) × (j ≤ h .transitions)) (λ j u v. (u, v)) p l)
-    (λ j r x.
-    let m = transition-known s h (g .recorded) j (r .0) (r .1) in
-    let y = and-eq-true-iff (eqb (transitionRecord s h j .action) a) (eqb (transitionRecord s h j .target) t) .0 x in
-    let ya = eqb-true (transitionRecord s h j .action) a (y .0) in
-    let yt = eqb-true (transitionRecord s h j .target) t (y .1) in
-    record { state = l; low = omega (arith, m, ya); high = omega (arith, m, ya); target = omega (arith, m, yt) })
-    (q .1)
 
 -- membership in lists that are joined, shifted and chosen
 in-left : (x : ℕ) (k l : List ℕ) → member x k ≡ true → member x (k ++ l) ≡ true
@@ -202,12 +167,8 @@ in-below : (n t : ℕ) (g : ℕ → Bool) → t < n → g t ≡ true → member 
 unfolding passing
 in-below zero t g l e = absurd (not-suc-le-zero l)
 in-below (suc n) t g l e =
-    ⊎-elim (λ (k : t < n). in-left t (passing n g) _ (in-below n t g k e)) (λ (k : t ≡ n). in-right t (passing n g) _ (last k)) (split (decLt t n))
+    ⊎-elim (λ (k : t < n). in-left t (passing n g) _ (in-below n t g k e)) (λ (k : t ≡ n). in-right t (passing n g) _ (last k)) (below-suc l)
   where
-    split : Dec (t < n) → (t < n) ⊎ (t ≡ n)
-    split (yes k) = inl k
-    split (no k) = inr (omega (arith, k))
-
     last : t ≡ n → member t (cond (g n) (n ∷ []) []) ≡ true
     last k = rw (← k, e) (in-one t)
 
@@ -220,14 +181,10 @@ every-member Q x (y ∷ l) r e = go (every-member Q x l (r .1)) (eqb x y) refl
     go i true q = rw (eqb-true x y q) (r .0)
     go i false q = i (rw q at e)
 
-every-code : (Q : ℕ → Type 0) (g : Transition → ℕ) (l : List Transition) → Every (λ x. Q (g x)) l → Every Q (map g l)
-every-code Q g [] e = tt
-every-code Q g (x ∷ l) e = (e .0, every-code Q g l (e .1))
-
 module _ (s : List ℕ) (h : Header) (g : ReadableAs s h) where
   by-in : (p a t A : ℕ) → a ≤ A → 1 ≤ a → t < f s h g .states → f s h g .transition p a t ≡ true
       → member (256 * a + t) (map (code s h g) (transitionsBy (f s h g) p A)) ≡ true
-  unfolding transitionsBy
+  unfolding transitionsBy concatBelow
   by-in p a t zero l k u e = absurd (omega arith)
   by-in p a t (suc A) l k u e =
       rw (map-append, to-codes s h g p (suc A) (passing (f s h g .states) (f s h g .transition p (suc A))))
@@ -248,7 +205,7 @@ module _ (s : List ℕ) (h : Header) (g : ReadableAs s h) where
   unfolding code
   of-out p a t u e =
       every-member (λ y. y ≡ 256 * a + t → f s h g .transition p a t ≡ true) (256 * a + t) (map (code s h g) (transitionsOf (f s h g) p))
-      (every-code (λ y. y ≡ 256 * a + t → f s h g .transition p a t ≡ true) (code s h g) (transitionsOf (f s h g) p)
+      (every-map (λ y. y ≡ 256 * a + t → f s h g .transition p a t ≡ true) (code s h g) (transitionsOf (f s h g) p)
       (every-more (Valid (f s h g) p) _ (transitionsOf (f s h g) p) (λ x v q. hit x v q) (of-keeps (f s h g) p)))
       e refl
     where
@@ -269,17 +226,17 @@ module _ (s : List ℕ) (h : Header) (g : ReadableAs s h) where
 
       forth : ltsOf (normal (ltsOf s)) .transition p a t ≡ true → ltsOf s .transition p a t ≡ true
       forth e =
-          let k = lts-sound (normal (ltsOf s)) h n p a t e in
+          let k = sound (normal (ltsOf s)) h n p a t e in
           let b = g .recorded .sized .bounds in
-          of-out p a t (omega (arith, k)) (sym (ap (member (256 * a + t)) (chain-codes s h g p (k .state))) ∙ (sym (transition-member (normal (ltsOf s)) h n p a t (k .state) (k .target)) ∙ e))
+          of-out p a t (omega (arith, k)) (sym (ap (member (256 * a + t)) (chain-codes s h g p (k .source))) ∙ (sym (transition-member (normal (ltsOf s)) h n p a t (k .source) (k .target)) ∙ e))
 
       back : ltsOf s .transition p a t ≡ true → ltsOf (normal (ltsOf s)) .transition p a t ≡ true
       back e =
-          let k = lts-sound s h g p a t e in
+          let k = sound s h g p a t e in
           let c = lts-states s h (g .header) in
           let d = lts-actions s h (g .header) in
-          transition-member (normal (ltsOf s)) h n p a t (k .state) (k .target)
-          ∙ (ap (member (256 * a + t)) (chain-codes s h g p (k .state)) ∙ by-in p a t (ltsOf s .actions) (omega (arith, k, d)) (k .low) (omega (arith, k, c)) e)
+          transition-member (normal (ltsOf s)) h n p a t (k .source) (k .target)
+          ∙ (ap (member (256 * a + t)) (chain-codes s h g p (k .source)) ∙ by-in p a t (ltsOf s .actions) (omega (arith, k, d)) (k .low) (omega (arith, k, c)) e)
 
   same-terminating : (p : ℕ) → ltsOf (normal (ltsOf s)) .terminating p ≡ ltsOf s .terminating p
   unfolding f

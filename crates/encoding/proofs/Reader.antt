@@ -1,20 +1,25 @@
 -- Laws of a sequence of checks, each of which refuses or goes on, and what is left of `readEncoding` after each.
 use Prim.Native.Nat.{ℕ, _≤_, _<_}
 use mathlib.Core.Path.{_≡_, refl, sym, _∙_}
-use mathlib.Core.Bool.{Bool, true, false, not}
+use mathlib.Core.Bool.{Bool, true, false, not, and-eq-true-iff}
 use mathlib.Core.List.{List}
 use native.Mathlib.Omega.{arith}
-use borrow.Author.Tests.{le-leb, lt-leb, eq-eqb, ne-eqb, not-true, not-false, eqb-true}
+use borrow.Author.Tests.{le-leb, lt-leb, not-true, not-false, eqb-true, leb-true}
 use lib.ListN.{length}
-use lib.Dec.{leb, eqb}
+use lib.Dec.{eqb}
 use Rattle.encoding.specs.declared.Header.{Header}
 use Rattle.lts.specs.declared.Refusal.{Refusal}
 use Rattle.lts.specs.declared.Refusal.the-variants.{Length, Range, StateRecord as BadState, TransitionRecord as BadTransition, Chain, Repeated}
 use Rattle.encoding.specs.declared.Reading.{Reading}
 use Rattle.encoding.specs.declared.Reading.the-variants.{Readable, Refused}
-use Rattle.encoding.specs.Encoding.{headerOf, inRange, encodingLength, statesFit, transitionsFit, chainsFit, successorsFit, unless, readEncoding}
-use Rattle.encoding.specs.Marks.{ReadableAs}
-use Rattle.encoding.proofs.Laws.{in-range}
+use Rattle.encoding.specs.Records.{headerOf, encodingLength}
+use Rattle.encoding.specs.Encoding.{inRange, statesFit, transitionsFit, chainsFit, successorsFit, unless, readEncoding}
+use Rattle.encoding.specs.Checked.{ReadableAs, Bounds}
+
+-- rule 2, as facts on the numbers
+pub in-range : (h : Header) → inRange h ≡ true → Bounds h
+unfolding inRange
+in-range h e = let p = simp and-eq-true-iff at e in omega (arith, leb-true)
 
 -- ## One check, made by the code as b
 module _ {x : Reading} (t : Bool) (r : Refusal) (a : Reading) {b : Bool} where

@@ -1,50 +1,15 @@
--- Laws of the numbers below n that pass a test, and of transitions written one after the other.
-use Prim.Native.Nat.{ℕ, zero, suc, _+_, _*_, _-_, _≤_, _<_}
-use mathlib.Core.Path.{_≡_, refl, sym, ap, _∙_}
-use mathlib.Core.Bool.{Bool, true, false, cond}
-use mathlib.Core.List.{List, [], _∷_, _++_, map, map-append, append-nil}
-use native.Mathlib.Omega.{arith}
-use native.Mathlib.Numerals.{add-one}
-use native.Mathlib.Nat.{not-suc-le-zero, add-zero, add-suc, suc-add}
-use native.Mathlib.Decide.{decLt}
-use mathlib.Core.Logic.{_⊎_, inl, inr, ⊎-elim}
-use lib.ListN.{length, getD, set, length-append, length-map}
+-- Laws of transitions written one after the other.
+use Rattle.encoding.proofs.Bounded.{passing-more}
+use Prim.Native.Nat.{ℕ, suc, _+_, _-_}
+use mathlib.Core.Path.{_≡_, refl, _∙_}
+use mathlib.Core.Bool.{Bool, true}
+use mathlib.Core.List.{List, [], _∷_, _++_, map, map-append}
+use native.Mathlib.Nat.{add-zero, add-suc, suc-add}
+use lib.ListN.{length, set, length-map}
 use lib.Seq.{sets, length-sets}
 use Rattle.lts.specs.Bounded.{passing}
 use Rattle.encoding.specs.Normal.{Transition, transitionsTo}
-use Rattle.encoding.specs.Loading.{Wrote}
-
--- ## Numbers below n that pass f
-module _ (f : ℕ → Bool) where
-  pub none : length (passing 0 f) ≡ 0
-  unfolding passing
-  none = refl
-
-  pub passing-more : (i : ℕ) → f i ≡ true → passing (i + 1) f ≡ passing i f ++ (i ∷ [])
-  unfolding passing
-  passing-more i e = rw (add-one, e)
-
-  pub passing-skip : (i : ℕ) → f i ≡ false → passing (i + 1) f ≡ passing i f
-  unfolding passing
-  passing-skip i e = rw (add-one, e) (append-nil (passing i f))
-
-  passing-grows : (n : ℕ) → length (passing n f) ≤ length (passing (suc n) f)
-  unfolding passing
-  passing-grows n = omega (arith, length-append (passing n f) (cond (f n) (n ∷ []) []))
-
-  -- one that passes leaves room for itself
-  pub passing-room : (n i : ℕ) → i < n → f i ≡ true → length (passing i f) < length (passing n f)
-  unfolding passing
-  passing-room zero i l e = absurd (not-suc-le-zero l)
-  passing-room (suc n) i l e =
-      ⊎-elim (λ (m : i < n). omega (arith, passing-room n i m e, passing-grows n)) (λ (m : i ≡ n). late m) (split (decLt i n))
-    where
-      split : Dec (i < n) → (i < n) ⊎ (i ≡ n)
-      split (yes k) = inl k
-      split (no k) = inr (omega (arith, k))
-
-      late : i ≡ n → length (passing i f) < length (passing n f ++ cond (f n) (n ∷ []) [])
-      late m = rw (m, ← m, e, m, length-append) (omega arith)
+use Rattle.encoding.specs.Loaded.{Wrote}
 
 -- ## Lists that were written to
 pub sets-append : (l : List ℕ) (i : ℕ) (vs ws : List ℕ) → sets l i (vs ++ ws) ≡ sets (sets l i vs) (i + length vs) ws

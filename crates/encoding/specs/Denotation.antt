@@ -1,17 +1,18 @@
--- The Lts that a readable encoding denotes.
+-- The Lts (flow) that a readable encoding denotes.
 use Prim.Native.Nat.{ℕ}
 use mathlib.Core.Bool.{Bool, true, false, _&&_, _||_}
 use mathlib.Core.List.{List, [], _∷_}
 use lib.Dec.{ltb, eqb}
 use Rattle.lts.specs.System.{Lts}
-use Rattle.encoding.specs.Encoding.{headerOf, stateRecord, transitionRecord, chain}
+use Rattle.encoding.specs.Records.{headerOf, stateRecord, transitionRecord}
+use Rattle.encoding.specs.Encoding.{chain}
 
 -- whether a number of the list passes f
 unfoldable pub any : (ℕ → Bool) → List ℕ → Bool
 any f [] = false
 any f (x ∷ l) = f x || any f l
 
--- state p is below n, and a record of its chain has action a and target t
+-- State p is terminating if its end mark is 1; p, a, t is a transition if a record of p's chain has action a and target t.
 unfoldable pub ltsOf : List ℕ → Lts
 ltsOf s =
     let h = headerOf s in

@@ -1,49 +1,18 @@
--- The encoding: its layout, the rules that make it readable, and what reading it answers (document 01, "The encoding").
-use Prim.Native.Nat.{ℕ, zero, suc, _+_, _*_, _-_}
+-- The rules that make an encoding readable, and what reading it answers (document 01, "The sheet" and the table of refusals).
+use Prim.Native.Nat.{ℕ, zero, suc, _+_, _*_}
 use mathlib.Core.Bool.{Bool, true, false, not, _&&_, _||_}
-use mathlib.Core.List.{List, [], _∷_, _++_, map}
-use lib.ListN.{length, getD}
+use mathlib.Core.List.{List, [], _∷_, map}
+use lib.ListN.{length}
 use lib.Dec.{ltb, leb, eqb}
+use Rattle.lts.specs.Bounded.{allBelow, concatBelow}
+use Rattle.lts.specs.declared.Refusal.{Refusal}
+use Rattle.lts.specs.declared.Refusal.the-variants.{Length, Range, StateRecord as BadState, TransitionRecord as BadTransition, Chain, Repeated}
 use Rattle.encoding.specs.declared.Header.{Header}
 use Rattle.encoding.specs.declared.StateRecord.{StateRecord}
 use Rattle.encoding.specs.declared.TransitionRecord.{TransitionRecord}
-use Rattle.lts.specs.declared.Refusal.{Refusal}
-use Rattle.lts.specs.declared.Refusal.the-variants.{Length, Range, StateRecord as BadState, TransitionRecord as BadTransition, Chain, Repeated}
-use Rattle.lts.specs.Bounded.{allBelow}
 use Rattle.encoding.specs.declared.Reading.{Reading}
 use Rattle.encoding.specs.declared.Reading.the-variants.{Readable, Refused}
-
--- the 16-bit number at i, low byte first
-unfoldable pub numberAt : List ℕ → ℕ → ℕ
-numberAt s i = getD s i 0 + 256 * getD s (i + 1) 0
-
--- the header's three counts
-unfoldable pub headerOf : List ℕ → Header
-headerOf s = record { states = numberAt s 0; actions = numberAt s 2; transitions = numberAt s 4 }
-
--- where the record of state p starts, where transition record j (from 1) starts, and the length of the whole encoding
-abbrev pub stateAt : Header → ℕ → ℕ
-stateAt h p = 6 + 4 * p
-
-abbrev pub transitionAt : Header → ℕ → ℕ
-transitionAt h j = 6 + 4 * h .states + 6 * (j - 1)
-
-abbrev pub encodingLength : Header → ℕ
-encodingLength h = 6 + 4 * h .states + 6 * h .transitions
-
--- a state record and a transition record, read at i
-unfoldable pub stateRecordAt : List ℕ → ℕ → StateRecord
-stateRecordAt s i = record { mark = getD s i 0; spare = getD s (i + 1) 0; first = numberAt s (i + 2) }
-
-unfoldable pub transitionRecordAt : List ℕ → ℕ → TransitionRecord
-transitionRecordAt s i =
-    record { action = getD s i 0; spare = getD s (i + 1) 0; target = numberAt s (i + 2); next = numberAt s (i + 4) }
-
-unfoldable pub stateRecord : List ℕ → Header → ℕ → StateRecord
-stateRecord s h p = stateRecordAt s (stateAt h p)
-
-unfoldable pub transitionRecord : List ℕ → Header → ℕ → TransitionRecord
-transitionRecord s h j = transitionRecordAt s (transitionAt h j)
+use Rattle.encoding.specs.Records.{headerOf, encodingLength, stateRecord, transitionRecord}
 
 -- rule 2: n from 1 to 256, m to 64, k to 1,024
 unfoldable pub inRange : Header → Bool
@@ -53,13 +22,13 @@ inRange h = leb 1 (h .states) && leb (h .states) 256 && leb (h .actions) 64 && l
 unfoldable pub stateFits : Header → StateRecord → Bool
 stateFits h r = leb (r .mark) 1 && eqb (r .spare) 0 && leb (r .first) (h .transitions)
 
+unfoldable pub statesFit : List ℕ → Header → Bool
+statesFit s h = allBelow (h .states) (λ p. stateFits h (stateRecord s h p))
+
 -- rule 4: the action is 1 to m, the spare byte 0, the target below n, the next index at most k
 unfoldable pub transitionFits : Header → TransitionRecord → Bool
 transitionFits h r =
     leb 1 (r .action) && leb (r .action) (h .actions) && eqb (r .spare) 0 && ltb (r .target) (h .states) && leb (r .next) (h .transitions)
-
-unfoldable pub statesFit : List ℕ → Header → Bool
-statesFit s h = allBelow (h .states) (λ p. stateFits h (stateRecord s h p))
 
 unfoldable pub transitionsFit : List ℕ → Header → Bool
 transitionsFit s h = allBelow (h .transitions) (λ i. transitionFits h (transitionRecord s h (i + 1)))
@@ -76,8 +45,7 @@ chain s h p = walk s h (suc (h .transitions)) (stateRecord s h p .first)
 
 -- the records of the chains of the states below n, one after the other
 unfoldable pub reached : List ℕ → Header → ℕ → List ℕ
-reached s h zero = []
-reached s h (suc p) = reached s h p ++ chain s h p
+reached s h n = concatBelow n (chain s h)
 
 unfoldable pub member : ℕ → List ℕ → Bool
 member x [] = false
@@ -105,7 +73,7 @@ unfoldable pub unless : Bool → Refusal → Reading → Reading
 unless true r a = a
 unless false r a = Refused r
 
--- what reading an encoding answers: the first rule that is broken, down the table, or the header
+-- What reading an encoding answers: the first rule that is broken, down the table, or the header.
 unfoldable pub readEncoding : List ℕ → Reading
 readEncoding s =
     let h = headerOf s in

@@ -1,6 +1,8 @@
+pub mod Records
 pub mod Encoding
-pub mod Marks
 pub mod Denotation
 pub mod Normal
-pub mod Loading
 pub mod Normalise
+pub mod Checked
+pub mod Marks
+pub mod Loaded

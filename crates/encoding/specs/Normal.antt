@@ -1,12 +1,16 @@
--- The normal form of an Lts: an encoding whose records are ordered by source state, then action, then target, with each chain consecutive
+-- The normal form: an encoding whose transition records are ordered by source state, then action, then target, with each chain consecutive
 -- and in that order. It is a function of the Lts alone, so that an Lts has one.
-use Prim.Native.Nat.{ℕ, zero, suc, _+_, _/_, _%_}
-use mathlib.Core.Bool.{Bool, true, false, cond}
+use Prim.Native.Nat.{ℕ, zero, suc, _+_}
+use mathlib.Core.Bool.{cond}
 use mathlib.Core.List.{List, [], _∷_, _++_, map}
 use lib.ListN.{length}
 use lib.Dec.{eqb}
-use Rattle.lts.specs.Bounded.{passing}
+use Rattle.lts.specs.Bounded.{passing, concatBelow}
 use Rattle.lts.specs.System.{Lts}
+use Rattle.encoding.specs.declared.Header.{Header}
+use Rattle.encoding.specs.declared.StateRecord.{StateRecord}
+use Rattle.encoding.specs.declared.TransitionRecord.{TransitionRecord}
+use Rattle.encoding.specs.Records.{headerBytes, stateBytes, transitionBytes}
 
 pub record Transition : Type 0 where
   pub source : ℕ
@@ -17,51 +21,50 @@ pub record Transition : Type 0 where
 unfoldable pub transitionsTo : ℕ → ℕ → List ℕ → List Transition
 transitionsTo p a l = map (λ t. record { source = p; action = a; target = t }) l
 
--- the transitions out of state p by the actions 1 to a, by action, then target
+-- the transitions out of state p by the actions 1 to m, by action, then target
 unfoldable pub transitionsBy : Lts → ℕ → ℕ → List Transition
-transitionsBy f p zero = []
-transitionsBy f p (suc a) = transitionsBy f p a ++ transitionsTo p (suc a) (passing (f .states) (f .transition p (suc a)))
+transitionsBy L p m = concatBelow m (λ a. transitionsTo p (suc a) (passing (L .states) (L .transition p (suc a))))
 
--- the transitions out of state p, and those out of the states below p
+-- the transitions out of state p, those out of the states below n, and all: normal order
 unfoldable pub transitionsOf : Lts → ℕ → List Transition
-transitionsOf f p = transitionsBy f p (f .actions)
+transitionsOf L p = transitionsBy L p (L .actions)
 
 unfoldable pub transitionsBelow : Lts → ℕ → List Transition
-transitionsBelow f zero = []
-transitionsBelow f (suc p) = transitionsBelow f p ++ transitionsOf f p
+transitionsBelow L n = concatBelow n (transitionsOf L)
 
--- ## The bytes
--- a 16-bit number, low byte first
-unfoldable pub two : ℕ → List ℕ
-two x = x % 256 ∷ x / 256 % 256 ∷ []
+unfoldable pub transitions : Lts → List Transition
+transitions L = transitionsBelow L (L .states)
 
-unfoldable pub stateBytes : ℕ → ℕ → List ℕ
-stateBytes mark first = mark ∷ 0 ∷ two first
-
-unfoldable pub transitionBytes : ℕ → ℕ → ℕ → List ℕ
-transitionBytes action target next = (action ∷ 0 ∷ two target) ++ two next
-
--- the first index of a state after whose transition i, and up to whose transition j, its own transitions stand; 0 where there are none
+-- the first index of a state whose transitions stand after the first i and up to the first j of all; 0 where it has none
 unfoldable pub firstIndex : ℕ → ℕ → ℕ
 firstIndex i j = cond (eqb i j) 0 (i + 1)
 
--- the state records of the states below p
-unfoldable pub statesBytes : Lts → ℕ → List ℕ
-statesBytes f zero = []
-statesBytes f (suc p) =
-    statesBytes f p ++ stateBytes (cond (f .terminating p) 1 0) (firstIndex (length (transitionsBelow f p)) (length (transitionsBelow f (suc p))))
-
--- the next index of transition i, x, before the transitions l: the following one, if it leaves the same state
+-- the next index of transition number i, x, before the transitions l: the following one, if it leaves the same state
 unfoldable pub nextIndex : ℕ → Transition → List Transition → ℕ
 nextIndex i x [] = 0
 nextIndex i x (y ∷ l) = cond (eqb (y .source) (x .source)) (i + 1) 0
 
--- the transition records of the transitions l, of which the first has number i
+-- the header and the records of the normal form
+unfoldable pub normalHeader : Lts → Header
+normalHeader L = record { states = L .states; actions = L .actions; transitions = length (transitions L) }
+
+unfoldable pub normalState : Lts → ℕ → StateRecord
+normalState L p = record {
+  mark = cond (L .terminating p) 1 0;
+  spare = 0;
+  first = firstIndex (length (transitionsBelow L p)) (length (transitionsBelow L (suc p)));
+}
+
+unfoldable pub normalTransition : ℕ → Transition → List Transition → TransitionRecord
+normalTransition i x l = record { action = x .action; spare = 0; target = x .target; next = nextIndex i x l }
+
+-- the records of the states below n; the records of the transitions l, of which the first has number i
+unfoldable pub statesBytes : Lts → ℕ → List ℕ
+statesBytes L n = concatBelow n (λ p. stateBytes (normalState L p))
+
 unfoldable pub transitionsBytes : ℕ → List Transition → List ℕ
 transitionsBytes i [] = []
-transitionsBytes i (x ∷ l) = transitionBytes (x .action) (x .target) (nextIndex i x l) ++ transitionsBytes (suc i) l
+transitionsBytes i (x ∷ l) = transitionBytes (normalTransition i x l) ++ transitionsBytes (suc i) l
 
 unfoldable pub normal : Lts → List ℕ
-normal f =
-    let l = transitionsBelow f (f .states) in
-    (two (f .states) ++ two (f .actions) ++ two (length l)) ++ statesBytes f (f .states) ++ transitionsBytes 1 l
+normal L = headerBytes (normalHeader L) ++ statesBytes L (L .states) ++ transitionsBytes 1 (transitions L)

@@ -1,26 +1,24 @@
-// Reads an encoding (document 01, "The encoding"): its header, or the number of the first rule that it breaks.
+// Encodings of labelled transition systems (document 01, "The sheet"): the reader, the loader that fills a transition table, and the
+// normaliser.
+ghost use Prim.Native.Nat.{_+_, _*_, _-_, _<_, _≤_};
 ghost use mathlib.Core.Path.{_≡_};
-ghost use mathlib.Core.Bool.{true};
-ghost use Prim.Native.Nat.{ℕ, _+_, _*_, _<_, _≤_};
-ghost use lib.ListN.{length};
-ghost use Rattle.encoding.specs.Encoding.{numberAt, headerOf, stateRecordAt, transitionRecordAt};
-ghost use Rattle.encoding.specs.Encoding.{inRange, stateFits, transitionFits, encodingLength, stateRecord, transitionRecord};
-ghost use Rattle.lts.specs.Bounded.{allBelow};
-ghost use Rattle.encoding.specs.Encoding.{statesFit, transitionsFit, chain, reached, successor, chainsFit, successorsFit, readEncoding};
-ghost use Rattle.encoding.specs.Marks.{Bounds, Sized, Recorded, TransitionKnown, FirstKnown, ReadableAs, Stamps, fresh, marked};
+ghost use mathlib.Core.Bool.{true, cond};
 ghost use mathlib.Core.List.{map};
-ghost use Rattle.encoding.specs.Denotation.{ltsOf};
-ghost use Rattle.lts.specs.Bounded.{passing};
-ghost use Rattle.encoding.specs.Normal.{transitionsTo, transitionsOf, transitionsBelow};
-ghost use Rattle.encoding.specs.Loading.{stamped, Wrote};
-ghost use Rattle.encoding.specs.Normal.{two, stateBytes, transitionBytes, firstIndex, nextIndex, statesBytes, transitionsBytes, normal};
-ghost use Rattle.encoding.specs.Normalise.{normalised, held};
-ghost use mathlib.Core.List.{_++_};
-ghost use mathlib.Core.Bool.{cond};
-ghost use lib.Seq.{sets};
-ghost use Prim.Native.Nat.{_-_};
-ghost use lib.ListN.{getD};
 ghost use lib.Dec.{eqb, ltb};
+ghost use lib.ListN.{length, getD};
+ghost use lib.Seq.{sets};
+ghost use Rattle.lts.specs.Bounded.{allBelow, passing};
+ghost use Rattle.encoding.specs.Records.{numberAt, two, headerOf, headerBytes, stateRecordAt, stateBytes};
+ghost use Rattle.encoding.specs.Records.{transitionRecordAt, transitionBytes, stateAt, transitionAt, encodingLength};
+ghost use Rattle.encoding.specs.Records.{stateRecord, transitionRecord};
+ghost use Rattle.encoding.specs.Encoding.{inRange, stateFits, transitionFits, statesFit, transitionsFit};
+ghost use Rattle.encoding.specs.Encoding.{chain, reached, successor, chainsFit, successorsFit, readEncoding};
+ghost use Rattle.encoding.specs.Denotation.{ltsOf};
+ghost use Rattle.encoding.specs.Normal.{transitionsTo, transitionsOf, firstIndex, transitionsBytes, normal};
+ghost use Rattle.encoding.specs.Normalise.{normalised};
+ghost use Rattle.encoding.specs.Checked.{Bounds, Sized, Recorded, FirstKnown, TransitionKnown, ReadableAs};
+ghost use Rattle.encoding.specs.Marks.{fresh, marked, Stamps, stamped};
+ghost use Rattle.encoding.specs.Loaded.{tableTransitions, tableStates, Buffers, Loaded, Wrote};
 
 pub struct Header {
     pub states: usize,
@@ -29,6 +27,7 @@ pub struct Header {
 }
 
 pub struct StateRecord {
+    // The end mark.
     pub mark: u8,
     pub spare: u8,
     pub first: usize,
@@ -52,7 +51,7 @@ pub enum Normalised {
 }
 
 // The 16-bit number at `at`, low byte first.
-pub fn number_at(s: &[u8], at: usize) -> usize
+fn number_at(s: &[u8], at: usize) -> usize
     requires { ⌜ at + 1 < length (now s) ⌝ }
     ensures { λ r. ⌜ r ≡ numberAt (now (s .entry)) at ⌝ }
 {
@@ -61,22 +60,46 @@ pub fn number_at(s: &[u8], at: usize) -> usize
     low + 256 * high
 }
 
+// Writes a 16-bit number, low byte first.
+fn put_two(out: &mut [u8], at: usize, x: usize)
+    requires { ⌜ at + 1 < length (now out) ⌝ }
+    ensures { λ r. ⌜ now (out .exit) ≡ sets (now (out .entry)) at (two x) ⌝ }
+{
+    out[at] = (x % 256) as u8;
+    out[at + 1] = (x / 256 % 256) as u8;
+}
+
 impl Header {
     pub const BYTES: usize = 6;
 
-    pub fn new(s: &[u8]) -> Header
-        requires { ⌜ 6 ≤ length (now s) ⌝ }
-        ensures { λ r. ⌜ r ≡ headerOf (now (s .entry)) ⌝ }
+    pub fn new(states: usize, actions: usize, transitions: usize) -> Header
+        ensures { λ r. ⌜ r ≡ record { states = states; actions = actions; transitions = transitions } ⌝ }
     {
         Header {
-            states: number_at(s, 0),
-            actions: number_at(s, 2),
-            transitions: number_at(s, 4),
+            states: states,
+            actions: actions,
+            transitions: transitions,
         }
     }
 
+    fn read(s: &[u8]) -> Header
+        requires { ⌜ 6 ≤ length (now s) ⌝ }
+        ensures { λ r. ⌜ r ≡ headerOf (now (s .entry)) ⌝ }
+    {
+        Header::new(number_at(s, 0), number_at(s, 2), number_at(s, 4))
+    }
+
+    fn put(self, out: &mut [u8])
+        requires { ⌜ 6 ≤ length (now out) ⌝ }
+        ensures { λ r. ⌜ now (out .exit) ≡ sets (now (out .entry)) 0 (headerBytes self) ⌝ }
+    {
+        put_two(out, 0, self.states);
+        put_two(out, 2, self.actions);
+        put_two(out, 4, self.transitions);
+    }
+
     // Whether each count is in its range.
-    pub fn in_range(self) -> bool
+    fn in_range(self) -> bool
         ensures { λ r. ⌜ r ≡ inRange self ⌝ }
     {
         (1 <= self.states)
@@ -85,32 +108,62 @@ impl Header {
             & (self.transitions <= 1024)
     }
 
+    // Where the record of state p starts.
+    fn state_at(self, p: usize) -> usize
+        requires { ⌜ (Bounds self) × (p ≤ self .states) ⌝ }
+        ensures { λ r. ⌜ r ≡ stateAt self p ⌝ }
+    {
+        Header::BYTES + StateRecord::BYTES * p
+    }
+
+    // Where transition record j, from 1, starts.
+    fn transition_at(self, j: usize) -> usize
+        requires { ⌜ (Bounds self) × (1 ≤ j) × (j ≤ self .transitions + 1) ⌝ }
+        ensures { λ r. ⌜ r ≡ transitionAt self j ⌝ }
+    {
+        let base = self.state_at(self.states);
+        base + TransitionRecord::BYTES * (j - 1)
+    }
+
     // The length of the whole encoding.
     pub fn length(self) -> usize
         requires { ⌜ Bounds self ⌝ }
         ensures { λ r. ⌜ r ≡ encodingLength self ⌝ }
     {
-        Header::BYTES
-            + StateRecord::BYTES * self.states
-            + TransitionRecord::BYTES * self.transitions
+        self.transition_at(self.transitions + 1)
     }
 }
 
 impl StateRecord {
     pub const BYTES: usize = 4;
 
-    pub fn new(s: &[u8], at: usize) -> StateRecord
-        requires { ⌜ at + 3 < length (now s) ⌝ }
-        ensures { λ r. ⌜ r ≡ stateRecordAt (now (s .entry)) at ⌝ }
+    pub fn new(mark: u8, spare: u8, first: usize) -> StateRecord
+        ensures { λ r. ⌜ r ≡ record { mark = mark; spare = spare; first = first } ⌝ }
     {
         StateRecord {
-            mark: s[at],
-            spare: s[at + 1],
-            first: number_at(s, at + 2),
+            mark: mark,
+            spare: spare,
+            first: first,
         }
     }
 
-    pub fn fits(self, h: Header) -> bool
+    fn read(s: &[u8], at: usize) -> StateRecord
+        requires { ⌜ at + 3 < length (now s) ⌝ }
+        ensures { λ r. ⌜ r ≡ stateRecordAt (now (s .entry)) at ⌝ }
+    {
+        StateRecord::new(s[at], s[at + 1], number_at(s, at + 2))
+    }
+
+    fn put(self, out: &mut [u8], at: usize)
+        requires { ⌜ at + 3 < length (now out) ⌝ }
+        ensures { λ r. ⌜ now (out .exit) ≡ sets (now (out .entry)) at (stateBytes self) ⌝ }
+    {
+        out[at] = self.mark;
+        out[at + 1] = self.spare;
+        put_two(out, at + 2, self.first);
+    }
+
+    fn fits(self, h: Header) -> bool
         ensures { λ r. ⌜ r ≡ stateFits h self ⌝ }
     {
         (self.mark <= 1) & (self.spare == 0) & (self.first <= h.transitions)
@@ -120,19 +173,35 @@ impl StateRecord {
 impl TransitionRecord {
     pub const BYTES: usize = 6;
 
-    pub fn new(s: &[u8], at: usize) -> TransitionRecord
-        requires { ⌜ at + 5 < length (now s) ⌝ }
-        ensures { λ r. ⌜ r ≡ transitionRecordAt (now (s .entry)) at ⌝ }
+    pub fn new(action: u8, spare: u8, target: usize, next: usize) -> TransitionRecord
+        ensures { λ r. ⌜ r ≡ record { action = action; spare = spare; target = target; next = next } ⌝ }
     {
         TransitionRecord {
-            action: s[at],
-            spare: s[at + 1],
-            target: number_at(s, at + 2),
-            next: number_at(s, at + 4),
+            action: action,
+            spare: spare,
+            target: target,
+            next: next,
         }
     }
 
-    pub fn fits(self, h: Header) -> bool
+    fn read(s: &[u8], at: usize) -> TransitionRecord
+        requires { ⌜ at + 5 < length (now s) ⌝ }
+        ensures { λ r. ⌜ r ≡ transitionRecordAt (now (s .entry)) at ⌝ }
+    {
+        TransitionRecord::new(s[at], s[at + 1], number_at(s, at + 2), number_at(s, at + 4))
+    }
+
+    fn put(self, out: &mut [u8], at: usize)
+        requires { ⌜ at + 5 < length (now out) ⌝ }
+        ensures { λ r. ⌜ now (out .exit) ≡ sets (now (out .entry)) at (transitionBytes self) ⌝ }
+    {
+        out[at] = self.action;
+        out[at + 1] = self.spare;
+        put_two(out, at + 2, self.target);
+        put_two(out, at + 4, self.next);
+    }
+
+    fn fits(self, h: Header) -> bool
         ensures { λ r. ⌜ r ≡ transitionFits h self ⌝ }
     {
         let a = self.action as usize;
@@ -145,22 +214,19 @@ impl TransitionRecord {
 }
 
 // The record of state p.
-pub fn state_record(s: &[u8], h: Header, p: usize) -> StateRecord
+fn state_record(s: &[u8], h: Header, p: usize) -> StateRecord
     requires { ⌜ (Sized (now s) h) × (p < h .states) ⌝ }
     ensures { λ r. ⌜ r ≡ stateRecord (now (s .entry)) h p ⌝ }
 {
-    StateRecord::new(s, Header::BYTES + StateRecord::BYTES * p)
+    StateRecord::read(s, h.state_at(p))
 }
 
 // Transition record j, from 1.
-pub fn transition_record(s: &[u8], h: Header, j: usize) -> TransitionRecord
+fn transition_record(s: &[u8], h: Header, j: usize) -> TransitionRecord
     requires { ⌜ (Sized (now s) h) × (1 ≤ j) × (j ≤ h .transitions) ⌝ }
     ensures { λ r. ⌜ r ≡ transitionRecord (now (s .entry)) h j ⌝ }
 {
-    TransitionRecord::new(
-        s,
-        Header::BYTES + StateRecord::BYTES * h.states + TransitionRecord::BYTES * (j - 1),
-    )
+    TransitionRecord::read(s, h.transition_at(j))
 }
 
 // Rule 3, of state p.
@@ -180,7 +246,7 @@ fn transition_fits(s: &[u8], h: Header, j: usize) -> bool
 }
 
 // Rule 3, over all state records.
-pub fn states_fit(s: &[u8], h: Header) -> bool
+fn states_fit(s: &[u8], h: Header) -> bool
     requires { ⌜ Sized (now s) h ⌝ }
     ensures { λ r. ⌜ r ≡ statesFit (now (s .entry)) h ⌝ }
 {
@@ -196,7 +262,7 @@ pub fn states_fit(s: &[u8], h: Header) -> bool
 }
 
 // Rule 4, over all transition records.
-pub fn transitions_fit(s: &[u8], h: Header) -> bool
+fn transitions_fit(s: &[u8], h: Header) -> bool
     requires { ⌜ Sized (now s) h ⌝ }
     ensures { λ r. ⌜ r ≡ transitionsFit (now (s .entry)) h ⌝ }
 {
@@ -283,7 +349,7 @@ fn all_marked(k: usize, seen: &[u8; 1025]) -> bool
 }
 
 // Rule 5.
-pub fn chains_fit(s: &[u8], h: Header) -> bool
+fn chains_fit(s: &[u8], h: Header) -> bool
     requires { ⌜ Recorded (now s) h ⌝ }
     ensures { λ r. ⌜ r ≡ chainsFit (now (s .entry)) h ⌝ }
 {
@@ -321,7 +387,7 @@ fn stamp_chain(s: &[u8], h: Header, p: usize, stamps: &mut [u16; 16640]) -> bool
 }
 
 // Rule 6.
-pub fn successors_fit(s: &[u8], h: Header) -> bool
+fn successors_fit(s: &[u8], h: Header) -> bool
     requires { ⌜ Recorded (now s) h ⌝ }
     ensures { λ r. ⌜ r ≡ successorsFit (now (s .entry)) h ⌝ }
 {
@@ -344,7 +410,7 @@ pub fn read_encoding(s: &[u8]) -> Reading
     if s.len() < Header::BYTES {
         return Reading::Refused(lts::Refusal::Length);
     }
-    let h = Header::new(s);
+    let h = Header::read(s);
     if !h.in_range() {
         return Reading::Refused(lts::Refusal::Range);
     }
@@ -373,14 +439,12 @@ fn load_action(
     n: usize,
     stamps: &[u16; 16640],
     from: usize,
-    sources: &mut [u16],
-    actions: &mut [u8],
-    targets: &mut [u16],
+    sources: &mut [u16; 1024],
+    actions: &mut [u8; 1024],
+    targets: &mut [u16; 1024],
 ) -> usize
     requires { ⌜ (p < 256) × (a ≤ 64) × (n ≤ 256) ⌝ }
-    requires { ⌜ from + length (passing n (stamped (p + 1) (now stamps) a)) ≤ length (now sources) ⌝ }
-    requires { ⌜ from + length (passing n (stamped (p + 1) (now stamps) a)) ≤ length (now actions) ⌝ }
-    requires { ⌜ from + length (passing n (stamped (p + 1) (now stamps) a)) ≤ length (now targets) ⌝ }
+    requires { ⌜ from + length (passing n (stamped (p + 1) (now stamps) a)) ≤ 1024 ⌝ }
     ensures { λ r. ⌜ r ≡ from + length (passing n (stamped (p + 1) (now (stamps .entry)) a)) ⌝ }
     ensures { λ r. ⌜ Wrote (transitionsTo p a (passing n (stamped (p + 1) (now (stamps .entry)) a))) from (now (sources .entry)) (now (actions .entry)) (now (targets .entry)) (now (sources .exit)) (now (actions .exit)) (now (targets .exit)) ⌝ }
 {
@@ -408,14 +472,12 @@ fn load_state(
     p: usize,
     stamps: &mut [u16; 16640],
     from: usize,
-    sources: &mut [u16],
-    actions: &mut [u8],
-    targets: &mut [u16],
+    sources: &mut [u16; 1024],
+    actions: &mut [u8; 1024],
+    targets: &mut [u16; 1024],
 ) -> usize
     requires { ⌜ (ReadableAs (now s) h) × (p < h .states) × (Stamps (now stamps) p) ⌝ }
-    requires { ⌜ from + length (transitionsOf (ltsOf (now s)) p) ≤ length (now sources) ⌝ }
-    requires { ⌜ from + length (transitionsOf (ltsOf (now s)) p) ≤ length (now actions) ⌝ }
-    requires { ⌜ from + length (transitionsOf (ltsOf (now s)) p) ≤ length (now targets) ⌝ }
+    requires { ⌜ from + length (transitionsOf (ltsOf (now s)) p) ≤ 1024 ⌝ }
     ensures { λ r. ⌜ r ≡ from + length (transitionsOf (ltsOf (now (s .entry))) p) ⌝ }
     ensures { λ r. ⌜ Wrote (transitionsOf (ltsOf (now (s .entry))) p) from (now (sources .entry)) (now (actions .entry)) (now (targets .entry)) (now (sources .exit)) (now (actions .exit)) (now (targets .exit)) ⌝ }
     ensures { λ r. ⌜ Stamps (now (stamps .exit)) (p + 1) ⌝ }
@@ -432,72 +494,42 @@ fn load_state(
     at
 }
 
-// Writes the transitions of a readable encoding in normal order; how many there are, which is the header's count.
+// Fills the transition table of a readable encoding: the end marks, the row offsets, and the transitions in normal order.
 pub fn load(
     s: &[u8],
     h: Header,
-    sources: &mut [u16],
-    actions: &mut [u8],
-    targets: &mut [u16],
-) -> usize
-    requires { ⌜ ReadableAs (now s) h ⌝ }
-    requires { ⌜ h .transitions ≤ length (now sources) ⌝ }
-    requires { ⌜ h .transitions ≤ length (now actions) ⌝ }
-    requires { ⌜ h .transitions ≤ length (now targets) ⌝ }
-    ensures { λ r. ⌜ r ≡ h .transitions ⌝ }
-    ensures { λ r. ⌜ Wrote (transitionsBelow (ltsOf (now (s .entry))) (h .states)) 0 (now (sources .entry)) (now (actions .entry)) (now (targets .entry)) (now (sources .exit)) (now (actions .exit)) (now (targets .exit)) ⌝ }
+    marks: &mut [u8; 256],
+    offsets: &mut [u16; 257],
+    sources: &mut [u16; 1024],
+    actions: &mut [u8; 1024],
+    targets: &mut [u16; 1024],
+)
+    requires { ⌜ (ReadableAs (now s) h) × (Buffers (now marks) (now offsets) (now sources) (now actions) (now targets)) ⌝ }
+    ensures { λ r. ⌜ Loaded (now (s .entry)) h (now (marks .exit)) (now (offsets .exit)) (now (sources .exit)) (now (actions .exit)) (now (targets .exit)) ⌝ }
 {
     let mut stamps = [0u16; 16640];
     let n = h.states;
     let mut at = 0;
     let mut p = 0;
+    offsets[0] = 0;
     while p < n {
+        marks[p] = state_record(s, h, p).mark;
         at = load_state(s, h, p, &mut stamps, at, sources, actions, targets);
         p += 1;
+        offsets[p] = at as u16;
     }
-    at
 }
 
-// Writes a 16-bit number, low byte first.
-fn put_two(out: &mut [u8], at: usize, x: usize)
-    requires { ⌜ at + 1 < length (now out) ⌝ }
-    ensures { λ r. ⌜ now (out .exit) ≡ sets (now (out .entry)) at (two x) ⌝ }
+// A 16-bit number as an index.
+fn wide(x: u16) -> usize
+    ensures { λ r. ⌜ (r ≡ x) × (r < 65536) ⌝ }
 {
-    out[at] = (x % 256) as u8;
-    out[at + 1] = (x / 256 % 256) as u8;
+    x as usize
 }
 
-fn put_state(out: &mut [u8], at: usize, mark: u8, first: usize)
-    requires { ⌜ at + 3 < length (now out) ⌝ }
-    ensures { λ r. ⌜ now (out .exit) ≡ sets (now (out .entry)) at (stateBytes mark first) ⌝ }
-{
-    out[at] = mark;
-    out[at + 1] = 0;
-    put_two(out, at + 2, first);
-}
-
-fn put_transition(out: &mut [u8], at: usize, action: u8, target: usize, next: usize)
-    requires { ⌜ at + 5 < length (now out) ⌝ }
-    ensures { λ r. ⌜ now (out .exit) ≡ sets (now (out .entry)) at (transitionBytes action target next) ⌝ }
-{
-    out[at] = action;
-    out[at + 1] = 0;
-    put_two(out, at + 2, target);
-    put_two(out, at + 4, next);
-}
-
-fn put_header(out: &mut [u8], h: Header)
-    requires { ⌜ 6 ≤ length (now out) ⌝ }
-    ensures { λ r. ⌜ now (out .exit) ≡ sets (now (out .entry)) 0 (two (h .states) ++ two (h .actions) ++ two (h .transitions)) ⌝ }
-{
-    put_two(out, 0, h.states);
-    put_two(out, 2, h.actions);
-    put_two(out, 4, h.transitions);
-}
-
-// A state's first index, where its transitions stand after the first i, up to the first j.
+// The first index of a state whose transitions stand after the first i and up to the first j.
 fn first_index(i: usize, j: usize) -> usize
-    requires { ⌜ i ≤ 1024 ⌝ }
+    requires { ⌜ i < 65536 ⌝ }
     ensures { λ r. ⌜ r ≡ firstIndex i j ⌝ }
 {
     if i == j {
@@ -507,8 +539,8 @@ fn first_index(i: usize, j: usize) -> usize
 }
 
 // The next index of transition i, from 0, of k.
-fn next_index(sources: &[u16], i: usize, k: usize) -> usize
-    requires { ⌜ (i < k) × (k ≤ length (now sources)) × (k ≤ 1024) ⌝ }
+fn next_index(sources: &[u16; 1024], i: usize, k: usize) -> usize
+    requires { ⌜ (i < k) × (k ≤ 1024) ⌝ }
     ensures { λ r. ⌜ r ≡ cond (ltb (i + 1) k) (cond (eqb (getD (now (sources .entry)) (i + 1) 0) (getD (now (sources .entry)) i 0)) (i + 2) 0) 0 ⌝ }
 {
     if i + 1 < k {
@@ -520,53 +552,48 @@ fn next_index(sources: &[u16], i: usize, k: usize) -> usize
     0
 }
 
-// Writes the records of the first k transitions of three slices, from `base` on.
-fn write_transitions(
-    out: &mut [u8],
-    base: usize,
-    k: usize,
-    sources: &[u16],
-    actions: &[u8],
-    targets: &[u16],
-)
-    requires { ⌜ (k ≤ 1024) × (base ≤ 4096) × (base + 6 * k ≤ length (now out)) ⌝ }
-    requires { ⌜ (k ≤ length (now sources)) × (k ≤ length (now actions)) × (k ≤ length (now targets)) ⌝ }
-    ensures { λ r. ⌜ now (out .exit) ≡ sets (now (out .entry)) base (transitionsBytes 1 (held (now (sources .entry)) (now (actions .entry)) (now (targets .entry)) 0 k)) ⌝ }
+// The record of state p, from the marks and the row offsets.
+fn table_state(marks: &[u8; 256], offsets: &[u16; 257], p: usize) -> StateRecord
+    requires { ⌜ p < 256 ⌝ }
+    ensures { λ r. ⌜ r ≡ record { mark = getD (now (marks .entry)) p 0; spare = 0; first = firstIndex (getD (now (offsets .entry)) p 0) (getD (now (offsets .entry)) (p + 1) 0) } ⌝ }
 {
-    let mut i = 0;
-    while i < k {
-        let next = next_index(sources, i, k);
-        let target = targets[i] as usize;
-        put_transition(out, base + 6 * i, actions[i], target, next);
-        i += 1;
+    let i = wide(offsets[p]);
+    let j = wide(offsets[p + 1]);
+    StateRecord::new(marks[p], 0, first_index(i, j))
+}
+
+// Writes the state records.
+fn write_states(out: &mut [u8], h: Header, marks: &[u8; 256], offsets: &[u16; 257])
+    requires { ⌜ (Bounds h) × (encodingLength h ≤ length (now out)) ⌝ }
+    ensures { λ r. ⌜ now (out .exit) ≡ sets (now (out .entry)) (stateAt h 0) (tableStates (now (marks .entry)) (now (offsets .entry)) (h .states)) ⌝ }
+{
+    let n = h.states;
+    let mut p = 0;
+    while p < n {
+        let r = table_state(marks, offsets, p);
+        r.put(out, h.state_at(p));
+        p += 1;
     }
 }
 
-// Writes the state records, and the transitions in normal order into three slices.
-fn write_states(
-    s: &[u8],
-    h: Header,
+// Writes the transition records.
+fn write_transitions(
     out: &mut [u8],
-    sources: &mut [u16],
-    actions: &mut [u8],
-    targets: &mut [u16],
+    h: Header,
+    sources: &[u16; 1024],
+    actions: &[u8; 1024],
+    targets: &[u16; 1024],
 )
-    requires { ⌜ (ReadableAs (now s) h) × (6 + 4 * h .states ≤ length (now out)) ⌝ }
-    requires { ⌜ (h .transitions ≤ length (now sources)) × (h .transitions ≤ length (now actions)) × (h .transitions ≤ length (now targets)) ⌝ }
-    ensures { λ r. ⌜ Wrote (transitionsBelow (ltsOf (now (s .entry))) (h .states)) 0 (now (sources .entry)) (now (actions .entry)) (now (targets .entry)) (now (sources .exit)) (now (actions .exit)) (now (targets .exit)) ⌝ }
-    ensures { λ r. ⌜ now (out .exit) ≡ sets (now (out .entry)) 6 (statesBytes (ltsOf (now (s .entry))) (h .states)) ⌝ }
+    requires { ⌜ (Bounds h) × (encodingLength h ≤ length (now out)) ⌝ }
+    ensures { λ r. ⌜ now (out .exit) ≡ sets (now (out .entry)) (transitionAt h 1) (transitionsBytes 1 (tableTransitions (now (sources .entry)) (now (actions .entry)) (now (targets .entry)) 0 (h .transitions))) ⌝ }
 {
-    let mut stamps = [0u16; 16640];
-    let n = h.states;
-    let mut at = 0;
-    let mut p = 0;
-    while p < n {
-        let next = load_state(s, h, p, &mut stamps, at, sources, actions, targets);
-        let first = first_index(at, next);
-        let mark = state_record(s, h, p).mark;
-        put_state(out, Header::BYTES + StateRecord::BYTES * p, mark, first);
-        at = next;
-        p += 1;
+    let k = h.transitions;
+    let mut i = 0;
+    while i < k {
+        let next = next_index(sources, i, k);
+        let r = TransitionRecord::new(actions[i], 0, wide(targets[i]), next);
+        r.put(out, h.transition_at(i + 1));
+        i += 1;
     }
 }
 
@@ -575,17 +602,27 @@ fn write_normal(s: &[u8], h: Header, out: &mut [u8])
     requires { ⌜ (ReadableAs (now s) h) × (length (now out) ≡ length (now s)) ⌝ }
     ensures { λ r. ⌜ now (out .exit) ≡ normal (ltsOf (now (s .entry))) ⌝ }
 {
+    let mut marks = [0u8; 256];
+    let mut offsets = [0u16; 257];
     let mut sources = [0u16; 1024];
     let mut actions = [0u8; 1024];
     let mut targets = [0u16; 1024];
-    put_header(out, h);
-    write_states(s, h, out, &mut sources, &mut actions, &mut targets);
-    let k = h.transitions;
-    let base = Header::BYTES + StateRecord::BYTES * h.states;
-    write_transitions(out, base, k, &sources, &actions, &targets);
+    load(
+        s,
+        h,
+        &mut marks,
+        &mut offsets,
+        &mut sources,
+        &mut actions,
+        &mut targets,
+    );
+    h.put(out);
+    write_states(out, h, &marks, &offsets);
+    write_transitions(out, h, &sources, &actions, &targets);
 }
 
-// Writes an encoding's normal form. A encoding that is not readable, and a buffer of another length, leave the buffer as it is.
+// Writes an encoding's normal form. An encoding that is refused, and a buffer of another length than the encoding's own, leave the
+// buffer as it is.
 pub fn normalise(s: &[u8], out: &mut [u8]) -> Normalised
     ensures { λ r. ⌜ r ≡ normalised (now (s .entry)) (now (out .entry)) .answer ⌝ }
     ensures { λ r. ⌜ now (out .exit) ≡ normalised (now (s .entry)) (now (out .entry)) .bytes ⌝ }

@@ -1,4 +1,4 @@
--- `encoding::all_marked` meets its contract: the loop has passed over i records, and all of them are marked. Assumes nothing.
+-- `encoding::all_marked` meets its contract: the loop has passed over i records, and all of them are marked.
 use borrow.Author.Needs.{needs}
 use Prim.Native.Nat.{_≤_, _+_, _-_}
 use mathlib.Core.Path.{_≡_, sym, refl}
@@ -7,11 +7,9 @@ use lib.ListN.{getD}
 use lib.Dec.{eqb}
 use borrow.Author.Tests.{eq-eqb, ne-eqb}
 use Rattle.lts.specs.Bounded.{allBelow}
-use Rattle.encoding.proofs.Laws.{all-none, all-more, all-stop, all-done}
+use Rattle.encoding.proofs.Bounded.{all-none, all-more, all-stop, all-done}
 use Rattle.encoding.proofs.all_marked.Statement.{statement}
 use Rattle.encoding.proofs.all_marked.Tie as tie
-use Rattle.encoding.proofs.all_marked.Reads as reads
-use Rattle.encoding.proofs.all_marked.Lts as lts
 
 abbrev Inv-loop : tie.InvT-loop
 Inv-loop k seen i₀ i = (i ≤ k) × (allBelow i (λ x. eqb (getD seen (x + 1) 0) 1) ≡ true)

@@ -1,12 +1,8 @@
--- `encoding::chains_fit` meets its contract: marks that start from zeros are set where a record is reached. Assumes nothing.
+-- `encoding::chains_fit` meets its contract: marks that start from zeros are set where a record is reached.
 use borrow.Author.Needs.{needs}
 use Rattle.encoding.proofs.Chains.{chains-stop, chains-done, zeros-at, zeros-long}
 use Rattle.encoding.proofs.chains_fit.Statement.{statement}
 use Rattle.encoding.proofs.chains_fit.Tie as tie
-use Rattle.encoding.proofs.chains_fit.Reads as reads
-use Rattle.encoding.proofs.chains_fit.Lts as lts
-use Rattle.encoding.proofs.all_marked.Reads as all-marked-reads
-use Rattle.encoding.proofs.mark_chains.Reads as mark-chains-reads
 
 mark-chains-requires : tie.Need-mark-chains-requires
 mark-chains-requires c κs = search needs

@@ -1,13 +1,9 @@
--- `encoding::first_index` meets its contract. Assumes nothing.
+-- `encoding::first_index` meets its contract.
 use borrow.Author.Needs.{needs}
-use native.Mathlib.Omega.{arith}
-use borrow.Author.Tests.{eq-eqb, ne-eqb, lt-ltb, le-ltb}
-use mathlib.Core.Path.{_≡_, _∙_, refl, sym, ap}
+use borrow.Author.Tests.{eq-eqb, ne-eqb}
 use Rattle.encoding.specs.Normal.{firstIndex}
 use Rattle.encoding.proofs.first_index.Statement.{statement}
 use Rattle.encoding.proofs.first_index.Tie as tie
-use Rattle.encoding.proofs.first_index.Reads as reads
-use Rattle.encoding.proofs.first_index.Lts as lts
 
 returns : tie.Need-returns
 unfolding firstIndex

@@ -1,11 +1,8 @@
--- `encoding::first_of` meets its contract, by rule 3 at state p. Assumes nothing.
+-- `encoding::first_of` meets its contract, by rule 3 at state p.
 use borrow.Author.Needs.{needs}
 use Rattle.encoding.proofs.Chains.{first-known}
 use Rattle.encoding.proofs.first_of.Statement.{statement}
 use Rattle.encoding.proofs.first_of.Tie as tie
-use Rattle.encoding.proofs.first_of.Reads as reads
-use Rattle.encoding.proofs.first_of.Lts as lts
-use Rattle.encoding.proofs.state_record.Reads as state-record-reads
 
 state-record-requires : tie.Need-state-record-requires
 state-record-requires c κs = search needs

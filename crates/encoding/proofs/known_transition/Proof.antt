@@ -1,11 +1,8 @@
--- `encoding::known_transition` meets its contract, by rule 4 at record j. Assumes nothing.
+-- `encoding::known_transition` meets its contract, by rule 4 at record j.
 use borrow.Author.Needs.{needs}
 use Rattle.encoding.proofs.Chains.{transition-known}
 use Rattle.encoding.proofs.known_transition.Statement.{statement}
 use Rattle.encoding.proofs.known_transition.Tie as tie
-use Rattle.encoding.proofs.known_transition.Reads as reads
-use Rattle.encoding.proofs.known_transition.Lts as lts
-use Rattle.encoding.proofs.transition_record.Reads as transition-record-reads
 
 transition-record-requires : tie.Need-transition-record-requires
 transition-record-requires c κs = search needs

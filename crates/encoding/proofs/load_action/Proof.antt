@@ -1,24 +1,22 @@
--- `encoding::load_action` meets its contract: the loop has written the transitions to the targets below t. Assumes nothing.
-use borrow.Author.Needs.{needs}
-use native.Mathlib.Omega.{arith}
-use Prim.Native.Nat.{_≤_, _<_, _-_, _+_}
-use mathlib.Core.Path.{_≡_, refl, _∙_}
-use lib.ListN.{length, length-set, length-append}
-use borrow.Author.Tests.{eq-eqb, ne-eqb}
-use Rattle.lts.specs.Bounded.{passing}
+-- `encoding::load_action` meets its contract: the loop has written the transitions to the targets below t.
+use Rattle.encoding.proofs.Writes.{wrote-none, to-none, to-write}
+use Rattle.encoding.proofs.Bounded.{passing-none, passing-more, passing-skip, passing-room}
+use Rattle.encoding.specs.Loaded.{Wrote}
+use Rattle.encoding.specs.Marks.{stamped}
 use Rattle.encoding.specs.Normal.{transitionsTo}
-use Rattle.encoding.specs.Loading.{stamped, Wrote}
-use Rattle.encoding.proofs.Writes.{passing-more, passing-skip, passing-room, wrote-none, wrote-long, to-none, none, to-write}
+use Rattle.lts.specs.Bounded.{passing}
+use borrow.Author.Tests.{eq-eqb, ne-eqb}
+use lib.ListN.{length, length-append}
+use mathlib.Core.Path.{_≡_}
+use Prim.Native.Nat.{_≤_, _<_, _-_, _+_}
+use native.Mathlib.Omega.{arith}
+use borrow.Author.Needs.{needs}
 use Rattle.encoding.proofs.load_action.Statement.{statement}
 use Rattle.encoding.proofs.load_action.Tie as tie
-use Rattle.encoding.proofs.load_action.Reads as reads
-use Rattle.encoding.proofs.load_action.Lts as lts
 
 abbrev Inv-loop : tie.InvT-loop
-Inv-loop p a n stamps from sources₀ actions₀ targets₀ stamp at₀ t₀ sources actions targets at t =
-    (t ≤ n) × (at ≡ from + length (passing t (stamped (p + 1) stamps a)))
+Inv-loop p a n stamps from sources₀ actions₀ targets₀ stamp at₀ t₀ sources actions targets at t = (t ≤ n) × (at ≡ from + length (passing t (stamped (p + 1) stamps a)))
     × Wrote (transitionsTo p a (passing t (stamped (p + 1) stamps a))) from sources₀ actions₀ targets₀ sources actions targets
-    × (length sources ≡ length sources₀) × (length actions ≡ length actions₀) × (length targets ≡ length targets₀)
 
 abbrev μ-loop : tie.MeasureT-loop
 μ-loop p a n stamps from sources₀ actions₀ targets₀ stamp at₀ t₀ sources actions targets at t = n - t
@@ -37,7 +35,7 @@ cast-stamp : tie.Need-cast-stamp Inv-loop μ-loop
 cast-stamp c = search needs
 
 loop-holds : tie.Need-loop-holds Inv-loop μ-loop
-loop-holds c = (search needs, rw none (search needs), rw to-none (wrote-none _), refl, refl, refl)
+loop-holds c = (search needs, rw passing-none (search needs), rw to-none (wrote-none _))
 
 mul-if1 : tie.Need-mul-if1 Inv-loop μ-loop
 mul-if1 c = search needs
@@ -57,14 +55,14 @@ cast-sources c = search needs
 mul-sources : tie.Need-mul-sources Inv-loop μ-loop
 mul-sources c = omega (arith, room c)
 
-slice-write-sources : tie.Need-slice-write-sources Inv-loop μ-loop
-slice-write-sources c = omega (arith, room c)
+element-write-sources : tie.Need-element-write-sources Inv-loop μ-loop
+element-write-sources c = omega (arith, room c)
 
 cast-actions : tie.Need-cast-actions Inv-loop μ-loop
 cast-actions c = search needs
 
-slice-write-actions : tie.Need-slice-write-actions Inv-loop μ-loop
-slice-write-actions c = omega (arith, room c)
+element-write-actions : tie.Need-element-write-actions Inv-loop μ-loop
+element-write-actions c = omega (arith, room c)
 
 cast-targets : tie.Need-cast-targets Inv-loop μ-loop
 cast-targets c = search needs
@@ -72,8 +70,8 @@ cast-targets c = search needs
 mul-targets : tie.Need-mul-targets Inv-loop μ-loop
 mul-targets c = omega (arith, room c)
 
-slice-write-targets : tie.Need-slice-write-targets Inv-loop μ-loop
-slice-write-targets c = omega (arith, room c)
+element-write-targets : tie.Need-element-write-targets Inv-loop μ-loop
+element-write-targets c = omega (arith, room c)
 
 add-at : tie.Need-add-at Inv-loop μ-loop
 add-at c = omega (arith, room c)
@@ -85,17 +83,10 @@ loop-less : tie.Need-loop-less Inv-loop μ-loop
 loop-less c = search needs
 
 loop-again : tie.Need-loop-again Inv-loop μ-loop
-loop-again c =
-    let l = c .before .before .before .loop in
+loop-again c = let l = c .before .before .before .loop in
     let e = eq-eqb _ _ (c .if1 .taken) in
-    let v = l .inv in (
-      search needs,
-      rw (passing-more _ (l .t) e, length-append) (omega arith),
-      to-write _ _ _ _ (l .at) (l .t) e (v .1) (v .2),
-      simp length-set (v .3),
-      simp length-set (v .4),
-      simp length-set (v .5),
-    )
+    let v = l .inv in
+    (search needs, rw (passing-more _ (l .t) e, length-append) (omega arith), to-write _ _ _ _ (l .at) (l .t) e (v .1) (v .2))
 
 add-t-2 : tie.Need-add-t-2 Inv-loop μ-loop
 add-t-2 c = search needs
@@ -104,25 +95,14 @@ loop-less-2 : tie.Need-loop-less-2 Inv-loop μ-loop
 loop-less-2 c = search needs
 
 loop-again-2 : tie.Need-loop-again-2 Inv-loop μ-loop
-loop-again-2 c =
-    let l = c .before .before .before .loop in
+loop-again-2 c = let l = c .before .before .before .loop in
     let a = c .before .before .before .before .args in
     let e = passing-skip (stamped (a .p + 1) (a .stamps .now) (a .a)) (l .t) (ne-eqb _ _ (c .if1 .left)) in
     let v = l .inv in
-    (search needs, rw e (v .1), rw e (v .2), v .3, v .4, v .5)
-
-same-length : tie.Need-same-length Inv-loop μ-loop
-same-length c = search needs
-
-same-length-2 : tie.Need-same-length-2 Inv-loop μ-loop
-same-length-2 c = search needs
-
-same-length-3 : tie.Need-same-length-3 Inv-loop μ-loop
-same-length-3 c = search needs
+    (search needs, rw e (v .1), rw e (v .2))
 
 returns : tie.Need-returns Inv-loop μ-loop
-returns c =
-    let v = c .before .loop .inv in
+returns c = let v = c .before .loop .inv in
     let e : c .before .before .args .n ≡ c .before .loop .t = omega arith in
     (rw e (v .1), rw e (v .2))
 
@@ -141,12 +121,12 @@ load-action-spec =
     element-copy-out-if1
     cast-sources
     mul-sources
-    slice-write-sources
+    element-write-sources
     cast-actions
-    slice-write-actions
+    element-write-actions
     cast-targets
     mul-targets
-    slice-write-targets
+    element-write-targets
     add-at
     add-t
     loop-less
@@ -154,7 +134,4 @@ load-action-spec =
     add-t-2
     loop-less-2
     loop-again-2
-    same-length
-    same-length-2
-    same-length-3
     returns)

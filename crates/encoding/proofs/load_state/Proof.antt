@@ -1,15 +1,11 @@
--- `encoding::load_state` meets its contract: the loop has written the transitions by the actions up to a. Assumes nothing.
-use borrow.Author.Needs.{needs}
-use native.Mathlib.Omega.{arith}
-use Prim.Native.Nat.{_-_}
+-- `encoding::load_state` meets its contract: the loop has written the transitions by the actions up to a.
+use Rattle.encoding.proofs.Filling.{Loading, loading-start, loading-room, loading-more, loading-done}
 use Rattle.encoding.specs.Denotation.{ltsOf}
-use Rattle.encoding.proofs.Transitions.{Loading, loading-start, loading-room, loading-more, loading-done}
+use Prim.Native.Nat.{_-_}
+use native.Mathlib.Omega.{arith}
+use borrow.Author.Needs.{needs}
 use Rattle.encoding.proofs.load_state.Statement.{statement}
 use Rattle.encoding.proofs.load_state.Tie as tie
-use Rattle.encoding.proofs.load_state.Reads as reads
-use Rattle.encoding.proofs.load_state.Lts as lts
-use Rattle.encoding.proofs.load_action.Reads as load-action-reads
-use Rattle.encoding.proofs.stamp_chain.Reads as stamp-chain-reads
 
 abbrev Inv-loop : tie.InvT-loop
 Inv-loop s p stamps from sources₀ actions₀ targets₀ n m at₀ a₀ sources actions targets at a = Loading (ltsOf s) p n m stamps from sources₀ actions₀ targets₀ a at sources actions targets
@@ -18,11 +14,10 @@ abbrev μ-loop : tie.MeasureT-loop
 μ-loop s p stamps from sources₀ actions₀ targets₀ n m at₀ a₀ sources actions targets at a = m - a
 
 stamp-chain-requires : tie.Need-stamp-chain-requires Inv-loop μ-loop
-stamp-chain-requires c κs = let a = c .before .before .before .before .before .pre .0 in (a .0 .recorded, a .1)
+stamp-chain-requires c κs = search needs
 
 loop-holds : tie.Need-loop-holds Inv-loop μ-loop
-loop-holds c =
-    let a = c .before .before .before .before .before .before .pre .0 in
+loop-holds c = let a = c .before .before .before .pre .0 in
     let e = c .stamp-chain .ensures in
     loading-start _ _ (a .0) _ (a .1) _ (a .2) (e .0) (e .1) _
 
@@ -30,11 +25,9 @@ add-load-action : tie.Need-add-load-action Inv-loop μ-loop
 add-load-action c = search needs
 
 load-action-requires : tie.Need-load-action-requires Inv-loop μ-loop
-load-action-requires c κs =
-    let g = c .before .before .before .before .before .loop .inv in
+load-action-requires c κs = let g = c .before .before .before .before .before .loop .inv in
     let r = loading-room g (search needs) in
-    let q = c .before .before .before .before .before .before .before .before .before .before .before .before .pre .1 in
-    ((g .state, omega (arith, g), g .narrow), (omega (arith, g, r, q), (omega (arith, g, r, q), omega (arith, g, r, q))))
+    ((g .state, omega (arith, g), g .narrow), omega (arith, g, r, c .before .before .before .before .before .before .before .before .before .pre .1))
 
 add-a : tie.Need-add-a Inv-loop μ-loop
 add-a c = search needs
@@ -43,22 +36,11 @@ loop-less : tie.Need-loop-less Inv-loop μ-loop
 loop-less c = search needs
 
 loop-again : tie.Need-loop-again Inv-loop μ-loop
-loop-again c =
-    let e = c .before .before .before .before .before .before .load-action .ensures in
-    loading-more (c .before .before .before .before .before .before .before .before .before .before .before .before .loop .inv) (search needs) (e .0) (e .1)
-
-same-length : tie.Need-same-length Inv-loop μ-loop
-same-length c = search needs
-
-same-length-2 : tie.Need-same-length-2 Inv-loop μ-loop
-same-length-2 c = search needs
-
-same-length-3 : tie.Need-same-length-3 Inv-loop μ-loop
-same-length-3 c = search needs
+loop-again c = let e = c .load-action .ensures in
+    loading-more (c .before .before .before .before .before .before .loop .inv) (search needs) (e .0) (e .1)
 
 returns : tie.Need-returns Inv-loop μ-loop
-returns c =
-    let g = c .before .loop .inv in
+returns c = let g = c .before .loop .inv in
     let d = loading-done g (c .loop-test .left) in
     (d .0, (d .1, g .stamps))
 
@@ -75,7 +57,4 @@ load-state-spec =
     add-a
     loop-less
     loop-again
-    same-length
-    same-length-2
-    same-length-3
     returns)

@@ -1,19 +1,13 @@
--- `encoding::mark_chain` meets its contract: what is left to be marked is the walk from j with the fuel that is left. Assumes nothing.
+-- `encoding::mark_chain` meets its contract: what is left to be marked is the walk from j with the fuel that is left.
 use borrow.Author.Needs.{needs}
-use native.Mathlib.Omega.{arith}
-use Prim.Native.Nat.{_≤_, _-_, _+_}
+use Prim.Native.Nat.{_≤_, _-_}
 use native.Mathlib.Numerals.{add-one}
-use mathlib.Core.Path.{_≡_, ap}
-use Rattle.encoding.specs.Encoding.{walk, chain, successor}
-use Rattle.encoding.specs.Marks.{Recorded}
-use Rattle.encoding.proofs.Chains.{walk-none, walk-end, walk-more}
-use Rattle.encoding.proofs.Chains.{Rest, rest-start, rest-end, rest-clash, rest-more}
+use mathlib.Core.Path.{_≡_}
+use Rattle.encoding.specs.Encoding.{walk, chain}
+use Rattle.encoding.specs.Checked.{Recorded}
+use Rattle.encoding.proofs.Chains.{walk-none, walk-end, walk-more, Rest, rest-start, rest-end, rest-clash, rest-more}
 use Rattle.encoding.proofs.mark_chain.Statement.{statement}
 use Rattle.encoding.proofs.mark_chain.Tie as tie
-use Rattle.encoding.proofs.mark_chain.Reads as reads
-use Rattle.encoding.proofs.mark_chain.Lts as lts
-use Rattle.encoding.proofs.first_of.Reads as first-of-reads
-use Rattle.encoding.proofs.known_transition.Reads as known-transition-reads
 
 abbrev Inv-loop : tie.InvT-loop
 Inv-loop s h p seen₀ j₀ left₀ seen j left =

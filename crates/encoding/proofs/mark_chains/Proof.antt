@@ -1,13 +1,10 @@
--- `encoding::mark_chains` meets its contract: the loop has marked the chains of the states below p. Assumes nothing.
+-- `encoding::mark_chains` meets its contract: the loop has marked the chains of the states below p.
 use borrow.Author.Needs.{needs}
 use Prim.Native.Nat.{_≤_, _-_}
-use Rattle.encoding.specs.Marks.{Recorded}
+use Rattle.encoding.specs.Checked.{Recorded}
 use Rattle.encoding.proofs.Chains.{Reach, reach-none, reach-more, reach-stop, reach-done}
 use Rattle.encoding.proofs.mark_chains.Statement.{statement}
 use Rattle.encoding.proofs.mark_chains.Tie as tie
-use Rattle.encoding.proofs.mark_chains.Reads as reads
-use Rattle.encoding.proofs.mark_chains.Lts as lts
-use Rattle.encoding.proofs.mark_chain.Reads as mark-chain-reads
 
 abbrev Inv-loop : tie.InvT-loop
 Inv-loop s h seen₀ n p₀ seen p = (p ≤ h .states) × Recorded s h × Reach s h seen₀ seen p

@@ -1,12 +1,8 @@
--- `encoding::next_index` meets its contract. Assumes nothing.
-use borrow.Author.Needs.{needs}
-use native.Mathlib.Omega.{arith}
+-- `encoding::next_index` meets its contract.
 use borrow.Author.Tests.{eq-eqb, ne-eqb, lt-ltb, le-ltb}
-use mathlib.Core.Path.{_≡_, _∙_, refl, sym, ap}
+use borrow.Author.Needs.{needs}
 use Rattle.encoding.proofs.next_index.Statement.{statement}
 use Rattle.encoding.proofs.next_index.Tie as tie
-use Rattle.encoding.proofs.next_index.Reads as reads
-use Rattle.encoding.proofs.next_index.Lts as lts
 
 add-if1 : tie.Need-add-if1
 add-if1 c = search needs
@@ -17,14 +13,14 @@ add-if2 c = search needs
 mul-if2 : tie.Need-mul-if2
 mul-if2 c = search needs
 
-shared-slice-read-if2 : tie.Need-shared-slice-read-if2
-shared-slice-read-if2 c = search needs
+element-copy-out-if2 : tie.Need-element-copy-out-if2
+element-copy-out-if2 c = search needs
 
 mul-if2-2 : tie.Need-mul-if2-2
 mul-if2-2 c = search needs
 
-shared-slice-read-if2-2 : tie.Need-shared-slice-read-if2-2
-shared-slice-read-if2-2 c = search needs
+element-copy-out-if2-2 : tie.Need-element-copy-out-if2-2
+element-copy-out-if2-2 c = search needs
 
 add-result : tie.Need-add-result
 add-result c = search needs
@@ -45,9 +41,9 @@ next-index-spec =
     add-if1
     add-if2
     mul-if2
-    shared-slice-read-if2
+    element-copy-out-if2
     mul-if2-2
-    shared-slice-read-if2-2
+    element-copy-out-if2-2
     add-result
     returns
     returns-2

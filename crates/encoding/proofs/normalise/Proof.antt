@@ -1,16 +1,10 @@
--- `encoding::normalise` meets its contract, by the cases of the reading. Assumes nothing.
+-- `encoding::normalise` meets its contract, by the cases of the reading.
 use borrow.Author.Needs.{needs}
-use native.Mathlib.Omega.{arith}
-use borrow.Author.Tests.{eq-eqb, ne-eqb, lt-ltb, le-ltb}
-use mathlib.Core.Path.{_≡_, _∙_, refl, sym, ap}
+use mathlib.Core.Path.{_∙_, sym}
 use Rattle.encoding.proofs.Outcomes.{stopped, misfit, written}
 use Rattle.encoding.proofs.Reader.{readable-of}
 use Rattle.encoding.proofs.normalise.Statement.{statement}
 use Rattle.encoding.proofs.normalise.Tie as tie
-use Rattle.encoding.proofs.normalise.Reads as reads
-use Rattle.encoding.proofs.normalise.Lts as lts
-use Rattle.encoding.proofs.read_encoding.Reads as read-encoding-reads
-use Rattle.encoding.proofs.write_normal.Reads as write-normal-reads
 
 read-encoding-requires : tie.Need-read-encoding-requires
 read-encoding-requires c κs = search needs

@@ -1,8 +1,8 @@
--- `encoding::number_at` meets its contract: the bytes are below 256, so the sum fits. Assumes nothing.
+-- `encoding::number_at` meets its contract: the bytes are below 256, so the sum fits.
 use borrow.Author.Needs.{needs}
 use native.Mathlib.Omega.{arith}
 use Prim.Native.Nat.{_+_}
-use Rattle.encoding.specs.Encoding.{numberAt}
+use Rattle.encoding.specs.Records.{numberAt}
 use Rattle.encoding.proofs.number_at.Statement.{statement}
 use Rattle.encoding.proofs.number_at.Tie as tie
 

@@ -1,14 +1,9 @@
--- `encoding::put_two` meets its contract. Assumes nothing.
+-- `encoding::put_two` meets its contract.
 use borrow.Author.Needs.{needs}
-use native.Mathlib.Omega.{arith}
-use native.Mathlib.Numerals.{add-one, add-two, add-four}
-use mathlib.Core.Path.{_∙_, refl, ap}
-use lib.ListN.{length-set, length}
-use Rattle.encoding.specs.Normal.{two}
+use native.Mathlib.Numerals.{add-one}
+use Rattle.encoding.specs.Records.{two}
 use Rattle.encoding.proofs.put_two.Statement.{statement}
 use Rattle.encoding.proofs.put_two.Tie as tie
-use Rattle.encoding.proofs.put_two.Reads as reads
-use Rattle.encoding.proofs.put_two.Lts as lts
 
 cast-out : tie.Need-cast-out
 cast-out c = search needs

@@ -1,44 +1,32 @@
--- `encoding::read_encoding` meets its contract: what is left of `readEncoding` after each check, and with it what the next one asks. Assumes nothing.
+-- `encoding::read_encoding` meets its contract: what is left of `readEncoding` after each check, and with it what the next one asks.
 use borrow.Author.Needs.{needs}
 use mathlib.Core.Path.{_≡_, refl, sym, _∙_}
-use mathlib.Core.Bool.{true}
-use native.Mathlib.Omega.{arith}
 use borrow.Author.Tests.{eq-eqb, ne-eqb, not-false}
 use Rattle.encoding.specs.Encoding.{readEncoding}
-use Rattle.encoding.specs.Marks.{Bounds, Sized, Recorded}
-use Rattle.encoding.proofs.Laws.{in-range}
-use Rattle.encoding.proofs.Reader.{stop, pass, start, short, fromRange, fromLength, fromStates, fromTransitions, fromChains, fromSuccessors}
+use Rattle.encoding.specs.Checked.{Bounds, Sized, Recorded}
+use Rattle.encoding.proofs.Reader.{in-range, stop, pass, start, short, fromRange, fromLength, fromStates, fromTransitions, fromChains, fromSuccessors}
 use Rattle.encoding.proofs.read_encoding.Statement.{statement}
 use Rattle.encoding.proofs.read_encoding.Tie as tie
-use Rattle.encoding.proofs.read_encoding.Reads as reads
-use Rattle.encoding.proofs.read_encoding.Lts as lts
-use Rattle.encoding.proofs.Header.in_range.Reads as in-range-reads
-use Rattle.encoding.proofs.Header.length.Reads as length-reads
-use Rattle.encoding.proofs.Header.new.Reads as new-reads
-use Rattle.encoding.proofs.chains_fit.Reads as chains-fit-reads
-use Rattle.encoding.proofs.transitions_fit.Reads as transitions-fit-reads
-use Rattle.encoding.proofs.states_fit.Reads as states-fit-reads
-use Rattle.encoding.proofs.successors_fit.Reads as successors-fit-reads
 
 -- what is left to be read after each check, and what the checks so far have shown
-after-1 : (c : tie.After-new) → readEncoding (c .before .before .before .args .s .now) ≡ fromRange (c .before .before .before .args .s .now) (c .new .result)
-after-1 c = start _ _ (c .before .if1 .left) (c .new .ensures)
+after-1 : (c : tie.After-read) → readEncoding (c .before .before .before .args .s .now) ≡ fromRange (c .before .before .before .args .s .now) (c .read .result)
+after-1 c = start _ _ (c .before .if1 .left) (c .read .ensures)
 
-after-2 : (c : tie.Else2) → (readEncoding (c .before .before .before .before .before .args .s .now) ≡ fromLength (c .before .before .before .before .before .args .s .now) (c .before .before .new .result)) × Bounds (c .before .before .new .result)
+after-2 : (c : tie.Else2) → (readEncoding (c .before .before .before .before .before .args .s .now) ≡ fromLength (c .before .before .before .before .before .args .s .now) (c .before .before .read .result)) × Bounds (c .before .before .read .result)
 after-2 c =
     let e = c .before .in-range .ensures in
     (pass _ _ _ (after-1 (c .before .before)) e (c .if2 .left), in-range _ (sym e ∙ not-false _ (c .if2 .left)))
 
-after-3 : (c : tie.Else3) → (readEncoding (c .before .before .before .before .before .before .before .args .s .now) ≡ fromStates (c .before .before .before .before .before .before .before .args .s .now) (c .before .before .before .before .new .result)) × Sized (c .before .before .before .before .before .before .before .args .s .now) (c .before .before .before .before .new .result)
+after-3 : (c : tie.Else3) → (readEncoding (c .before .before .before .before .before .before .before .args .s .now) ≡ fromStates (c .before .before .before .before .before .before .before .args .s .now) (c .before .before .before .before .read .result)) × Sized (c .before .before .before .before .before .before .before .args .s .now) (c .before .before .before .before .read .result)
 after-3 c =
     let p = after-2 (c .before .before) in
     let e = c .if3 .left ∙ c .before .length .ensures in
     (pass _ _ _ (p .0) (sym (eq-eqb _ _ e)) refl, record { bounds = p .1; long = e })
 
-after-4 : (c : tie.Else4) → (readEncoding (c .before .before .before .before .before .before .before .before .before .args .s .now) ≡ fromTransitions (c .before .before .before .before .before .before .before .before .before .args .s .now) (c .before .before .before .before .before .before .new .result)) × Sized (c .before .before .before .before .before .before .before .before .before .args .s .now) (c .before .before .before .before .before .before .new .result)
+after-4 : (c : tie.Else4) → (readEncoding (c .before .before .before .before .before .before .before .before .before .args .s .now) ≡ fromTransitions (c .before .before .before .before .before .before .before .before .before .args .s .now) (c .before .before .before .before .before .before .read .result)) × Sized (c .before .before .before .before .before .before .before .before .before .args .s .now) (c .before .before .before .before .before .before .read .result)
 after-4 c = let p = after-3 (c .before .before) in (pass _ _ _ (p .0) (c .before .states-fit .ensures) (c .if4 .left), p .1)
 
-after-5 : (c : tie.Else5) → (readEncoding (c .before .before .before .before .before .before .before .before .before .before .before .args .s .now) ≡ fromChains (c .before .before .before .before .before .before .before .before .before .before .before .args .s .now) (c .before .before .before .before .before .before .before .before .new .result)) × Recorded (c .before .before .before .before .before .before .before .before .before .before .before .args .s .now) (c .before .before .before .before .before .before .before .before .new .result)
+after-5 : (c : tie.Else5) → (readEncoding (c .before .before .before .before .before .before .before .before .before .before .before .args .s .now) ≡ fromChains (c .before .before .before .before .before .before .before .before .before .before .before .args .s .now) (c .before .before .before .before .before .before .before .before .read .result)) × Recorded (c .before .before .before .before .before .before .before .before .before .before .before .args .s .now) (c .before .before .before .before .before .before .before .before .read .result)
 after-5 c =
     let p = after-4 (c .before .before) in
     let e = c .before .transitions-fit .ensures in (
@@ -50,14 +38,14 @@ after-5 c =
       },
     )
 
-after-6 : (c : tie.Else6) → (readEncoding (c .before .before .before .before .before .before .before .before .before .before .before .before .before .args .s .now) ≡ fromSuccessors (c .before .before .before .before .before .before .before .before .before .before .before .before .before .args .s .now) (c .before .before .before .before .before .before .before .before .before .before .new .result)) × Recorded (c .before .before .before .before .before .before .before .before .before .before .before .before .before .args .s .now) (c .before .before .before .before .before .before .before .before .before .before .new .result)
+after-6 : (c : tie.Else6) → (readEncoding (c .before .before .before .before .before .before .before .before .before .before .before .before .before .args .s .now) ≡ fromSuccessors (c .before .before .before .before .before .before .before .before .before .before .before .before .before .args .s .now) (c .before .before .before .before .before .before .before .before .before .before .read .result)) × Recorded (c .before .before .before .before .before .before .before .before .before .before .before .before .before .args .s .now) (c .before .before .before .before .before .before .before .before .before .before .read .result)
 after-6 c = let p = after-5 (c .before .before) in (pass _ _ _ (p .0) (c .before .chains-fit .ensures) (c .if6 .left), p .1)
 
 returns : tie.Need-returns
 returns c = short _ (c .if1 .taken)
 
-new-requires : tie.Need-new-requires
-new-requires c κs = search needs
+read-requires : tie.Need-read-requires
+read-requires c κs = search needs
 
 in-range-requires : tie.Need-in-range-requires
 in-range-requires c κs = search needs
@@ -103,7 +91,7 @@ read-encoding-spec =
     tie.close
     (tie.spec
     returns
-    new-requires
+    read-requires
     in-range-requires
     returns-2
     length-requires

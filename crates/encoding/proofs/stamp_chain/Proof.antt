@@ -1,20 +1,14 @@
--- `encoding::stamp_chain` meets its contract, as `mark_chain` does; a place is the action and target of a record. Assumes nothing.
+-- `encoding::stamp_chain` meets its contract, as `mark_chain` does; a place is the action and target of a record.
 use borrow.Author.Needs.{needs}
-use native.Mathlib.Omega.{arith}
 use Prim.Native.Nat.{_≤_, _-_, _+_}
 use native.Mathlib.Numerals.{add-one}
 use mathlib.Core.Path.{_≡_, ap}
 use Rattle.encoding.specs.Encoding.{walk, chain, successor}
-use Rattle.encoding.specs.Marks.{Recorded}
-use Rattle.encoding.proofs.Chains.{walk-none, walk-end, walk-more}
-use Rattle.encoding.proofs.Chains.{Rest, rest-start, rest-end, rest-clash, rest-more}
+use Rattle.encoding.specs.Checked.{Recorded}
+use Rattle.encoding.proofs.Chains.{walk-none, walk-end, walk-more, Rest, rest-start, rest-end, rest-clash, rest-more}
 use mathlib.Core.List.{map}
 use Rattle.encoding.proofs.stamp_chain.Statement.{statement}
 use Rattle.encoding.proofs.stamp_chain.Tie as tie
-use Rattle.encoding.proofs.stamp_chain.Reads as reads
-use Rattle.encoding.proofs.stamp_chain.Lts as lts
-use Rattle.encoding.proofs.first_of.Reads as first-of-reads
-use Rattle.encoding.proofs.known_transition.Reads as known-transition-reads
 
 abbrev Inv-loop : tie.InvT-loop
 Inv-loop s h p stamps₀ stamp j₀ left₀ stamps j left =

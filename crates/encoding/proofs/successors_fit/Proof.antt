@@ -1,22 +1,18 @@
--- `encoding::steps_fit` meets its contract: the loop has passed over the states below p, whose stamps are at most p. Assumes nothing.
+-- `encoding::successors_fit` meets its contract: the loop has passed over the states below p, whose stamps are at most p.
 use borrow.Author.Needs.{needs}
-use native.Mathlib.Omega.{arith}
 use native.Mathlib.Nat.{le-of-eq}
 use Prim.Native.Nat.{ℕ, _≤_, _-_}
-use Rattle.encoding.specs.Marks.{Recorded}
+use Rattle.encoding.specs.Checked.{Recorded}
 use mathlib.Core.Path.{_≡_}
 use mathlib.Core.Bool.{true}
 use mathlib.Core.List.{map}
 use lib.ListN.{getD, length}
 use Rattle.lts.specs.Bounded.{allBelow}
 use Rattle.encoding.specs.Encoding.{distinct, successor, chain, successorsFit}
-use Rattle.encoding.proofs.Laws.{all-none, all-more, all-stop, all-done}
+use Rattle.encoding.proofs.Bounded.{all-none, all-more, all-stop, all-done}
 use Rattle.encoding.proofs.Chains.{zeros-at, zeros-long, stamp-test, stamp-next}
 use Rattle.encoding.proofs.successors_fit.Statement.{statement}
 use Rattle.encoding.proofs.successors_fit.Tie as tie
-use Rattle.encoding.proofs.successors_fit.Reads as reads
-use Rattle.encoding.proofs.successors_fit.Lts as lts
-use Rattle.encoding.proofs.stamp_chain.Reads as stamp-chain-reads
 
 abbrev Inv-loop : tie.InvT-loop
 Inv-loop s h stamps₀ n p₀ stamps p =

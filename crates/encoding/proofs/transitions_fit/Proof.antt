@@ -1,11 +1,12 @@
--- `encoding::transitions_fit` meets its contract: the loop has passed over the records below i, and all of them fit. Assumes nothing.
+-- `encoding::transitions_fit` meets its contract: the loop has passed over the records below i, and all of them fit.
 use borrow.Author.Needs.{needs}
 use Prim.Native.Nat.{_≤_, _-_, _+_}
 use mathlib.Core.Path.{_≡_}
 use mathlib.Core.Bool.{true}
 use Rattle.lts.specs.Bounded.{allBelow}
-use Rattle.encoding.specs.Encoding.{transitionsFit, transitionFits, transitionRecord}
-use Rattle.encoding.proofs.Laws.{all-none, all-more, all-stop, all-done}
+use Rattle.encoding.specs.Encoding.{transitionsFit, transitionFits}
+use Rattle.encoding.specs.Records.{transitionRecord}
+use Rattle.encoding.proofs.Bounded.{all-none, all-more, all-stop, all-done}
 use Rattle.encoding.proofs.transitions_fit.Statement.{statement}
 use Rattle.encoding.proofs.transitions_fit.Tie as tie
 

@@ -1,11 +1,9 @@
+-- `encoding::Header::in_range` meets its contract.
 use mathlib.Core.Path.{refl}
 use Rattle.encoding.specs.Encoding.{inRange}
 use Rattle.encoding.proofs.Header.in_range.Statement.{statement}
 use Rattle.encoding.proofs.Header.in_range.Tie as tie
-use Rattle.encoding.proofs.Header.in_range.Reads as reads
-use Rattle.encoding.proofs.Header.in_range.Lts as lts
 
--- src/lib.rt:67:5
 returns : tie.Need-returns
 unfolding inRange
 returns c = refl

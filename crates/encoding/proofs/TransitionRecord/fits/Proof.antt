@@ -1,16 +1,13 @@
+-- `encoding::TransitionRecord::fits` meets its contract.
 use mathlib.Core.Path.{refl}
 use Rattle.encoding.specs.Encoding.{transitionFits}
 use borrow.Author.Needs.{needs}
 use Rattle.encoding.proofs.TransitionRecord.fits.Statement.{statement}
 use Rattle.encoding.proofs.TransitionRecord.fits.Tie as tie
-use Rattle.encoding.proofs.TransitionRecord.fits.Reads as reads
-use Rattle.encoding.proofs.TransitionRecord.fits.Lts as lts
 
--- src/lib.rt:121:17
 cast-a : tie.Need-cast-a
 cast-a c = search needs
 
--- src/lib.rt:118:5
 returns : tie.Need-returns
 unfolding transitionFits
 returns c = refl

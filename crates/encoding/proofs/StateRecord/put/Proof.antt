@@ -1,15 +1,12 @@
--- `encoding::put_state` meets its contract. Assumes nothing.
-use borrow.Author.Needs.{needs}
+-- `encoding::StateRecord::put` meets its contract.
+use mathlib.Core.Path.{_∙_}
+use lib.ListN.{length-set}
+use native.Mathlib.Numerals.{add-one, add-two}
 use native.Mathlib.Omega.{arith}
-use native.Mathlib.Numerals.{add-one, add-two, add-four}
-use mathlib.Core.Path.{_∙_, refl, ap}
-use lib.ListN.{length-set, length}
-use Rattle.encoding.specs.Normal.{two, stateBytes}
-use Rattle.encoding.proofs.put_state.Statement.{statement}
-use Rattle.encoding.proofs.put_state.Tie as tie
-use Rattle.encoding.proofs.put_state.Reads as reads
-use Rattle.encoding.proofs.put_state.Lts as lts
-use Rattle.encoding.proofs.put_two.Reads as put-two-reads
+use Rattle.encoding.specs.Records.{stateBytes}
+use borrow.Author.Needs.{needs}
+use Rattle.encoding.proofs.StateRecord.put.Statement.{statement}
+use Rattle.encoding.proofs.StateRecord.put.Tie as tie
 
 slice-write-out : tie.Need-slice-write-out
 slice-write-out c = search needs
@@ -33,8 +30,8 @@ returns : tie.Need-returns
 unfolding stateBytes
 returns c = c .before .before .put-two .ensures ∙ rw (add-one, add-two)
 
-pub put-state-spec : {M : Type 1} → statement M
-put-state-spec =
+pub put-spec : {M : Type 1} → statement M
+put-spec =
     tie.close
     (tie.spec
     slice-write-out

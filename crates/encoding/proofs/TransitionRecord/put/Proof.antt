@@ -1,15 +1,12 @@
--- `encoding::put_transition` meets its contract. Assumes nothing.
-use borrow.Author.Needs.{needs}
-use native.Mathlib.Omega.{arith}
+-- `encoding::TransitionRecord::put` meets its contract.
+use mathlib.Core.Path.{_∙_}
+use lib.ListN.{length-set}
 use native.Mathlib.Numerals.{add-one, add-two, add-four}
-use mathlib.Core.Path.{_∙_, refl, ap}
-use lib.ListN.{length-set, length}
-use Rattle.encoding.specs.Normal.{two, transitionBytes}
-use Rattle.encoding.proofs.put_transition.Statement.{statement}
-use Rattle.encoding.proofs.put_transition.Tie as tie
-use Rattle.encoding.proofs.put_transition.Reads as reads
-use Rattle.encoding.proofs.put_transition.Lts as lts
-use Rattle.encoding.proofs.put_two.Reads as put-two-reads
+use native.Mathlib.Omega.{arith}
+use Rattle.encoding.specs.Records.{transitionBytes, two}
+use borrow.Author.Needs.{needs}
+use Rattle.encoding.proofs.TransitionRecord.put.Statement.{statement}
+use Rattle.encoding.proofs.TransitionRecord.put.Tie as tie
 
 slice-write-out : tie.Need-slice-write-out
 slice-write-out c = search needs
@@ -39,8 +36,8 @@ returns : tie.Need-returns
 unfolding transitionBytes two
 returns c = rw (c .before .before .put-two2 .ensures, c .before .before .before .before .before .before .put-two .ensures, add-one, add-two, add-four)
 
-pub put-transition-spec : {M : Type 1} → statement M
-put-transition-spec =
+pub put-spec : {M : Type 1} → statement M
+put-spec =
     tie.close
     (tie.spec
     slice-write-out
