@@ -1,5 +1,5 @@
 -- The chains of a normal form are consecutive.
-use Prim.Native.Nat.{ℕ, zero, suc, _+_, _*_, _-_, _≤_, _<_}
+use Prim.Native.Nat.{ℕ, zero, suc, _+_, _-_, _≤_, _<_}
 use mathlib.Core.Path.{_≡_, refl, sym, ap, _∙_}
 use mathlib.Core.Bool.{Bool, true, false, cond, _||_, _&&_}
 use mathlib.Core.List.{List, [], _∷_, _++_, map}
@@ -23,6 +23,7 @@ use Rattle.encoding.proofs.Chains.{walk-end}
 use Rattle.encoding.proofs.Counting.{all-count}
 use Rattle.encoding.proofs.Denotation.{lts-states, lts-actions}
 use Rattle.encoding.proofs.Order.{nth, every-nth, up-none, up-length, up-grows, Valid, of-keeps, Sourced, all-keep, state-nth, later}
+use Rattle.encoding.proofs.Codes.{code}
 use Rattle.encoding.proofs.NormalReads.{next-small, normal-state, normal-transition, normal-length}
 
 pub drop-nth : (l : List Transition) (i : ℕ) → i < length l → drop i l ≡ nth l i ∷ drop (suc i) l
@@ -256,9 +257,6 @@ module _ (s : List ℕ) (h : Header) (g : ReadableAs s h) where
       (all-true _ (h .transitions) (λ i l. upto-in (i + 1) 1 (h .transitions) (omega arith) (omega arith)))
 
   -- ## Rule 6
-  unfoldable pub code : Transition → ℕ
-  code x = 256 * x .action + x .target
-
   pub successor-on : (p i : ℕ) → p < h .states → i < length (transitionsOf f p) → successor (normal f) h (suc (at p + i)) ≡ code (nth (transitionsOf f p) i)
   unfolding successor code at all
   successor-on p i l u =

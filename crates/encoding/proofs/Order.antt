@@ -115,6 +115,18 @@ module _ (f : Lts) where
       go r (yes k) = let q = r k in record { state = q .state; under = let w = q .under in omega arith; low = q .low; high = q .high }
       go r (no k) = record { state = n; under = le-refl _; low = omega (arith, k); high = u }
 
+  -- rows follow each other in the states' order
+  pub row-order : (n i j : ℕ) → i < j → (p : Row n i) (q : Row n j) → p .state ≤ q .state
+  row-order n i j l p q = go (decLt (q .state) (p .state))
+    where
+      go : Dec (q .state < p .state) → p .state ≤ q .state
+      go (yes d) =
+          let r = up-grows f (p .state) (suc (q .state)) d in
+          let m = q .high in
+          let o = p .low in
+          absurd (omega (arith, r, m, o))
+      go (no d) = omega (arith, d)
+
   -- a transition after state p's leaves a later state
   pub later : (n p i : ℕ) → length (transitionsBelow f (suc p)) ≤ i → i < length (transitionsBelow f n) → p < nth (transitionsBelow f n) i .source
   later n p i l u =
@@ -134,14 +146,14 @@ map-at g (x ∷ l) (suc i) u = map-at g l i (omega arith)
 
 module _ (f : Lts) (p a t : ℕ) (k : a < f .actions) (u : t < f .states) (e : f .transition p (suc a) t ≡ true) where
   -- its place among the transitions out of p
-  of-place : ℕ
+  pub of-place : ℕ
   of-place = length (transitionsBy f p a) + length (passing t (f .transition p (suc a)))
 
   inner : length (passing t (f .transition p (suc a))) < length (transitionsTo p (suc a) (passing (f .states) (f .transition p (suc a))))
   unfolding transitionsTo
   inner = rw length-map (passing-room (f .transition p (suc a)) (f .states) t u e)
 
-  of-room : of-place < length (transitionsOf f p)
+  pub of-room : of-place < length (transitionsOf f p)
   unfolding of-place transitionsOf transitionsBy
   of-room = concat-room _ (f .actions) a _ k inner
 
@@ -154,7 +166,7 @@ module _ (f : Lts) (p a t : ℕ) (k : a < f .actions) (u : t < f .states) (e : f
   unfolding nth of-place transitionsOf transitionsBy
   by-nth = concat-at _ _ (f .actions) a _ k inner
 
-  of-nth : nth (transitionsOf f p) of-place ≡ record { source = p; action = suc a; target = t }
+  pub of-nth : nth (transitionsOf f p) of-place ≡ record { source = p; action = suc a; target = t }
   of-nth = by-nth ∙ (to-nth ∙ ap (λ v. record { source = p; action = suc a; target = v }) (passing-place (f .transition p (suc a)) (f .states) t u e))
 
   pub placed : (n : ℕ) → p < n
