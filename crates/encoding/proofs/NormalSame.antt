@@ -18,7 +18,7 @@ use Rattle.encoding.proofs.Bounded.{all-true}
 use Rattle.encoding.proofs.Denotation.{lts-states, lts-actions, lts-terminating, transition-member, Sound, sound}
 use Rattle.encoding.proofs.Codes.{code, codes-distinct, codes-in, codes-out}
 use Rattle.encoding.proofs.NormalReads.{normal-header}
-use Rattle.encoding.proofs.NormalChains.{f, recorded, chains-ok, successors-on, chain-on, state-is}
+use Rattle.encoding.proofs.NormalChains.{L, recorded, chains-ok, successors-on, chain-on, state-is}
 
 both : (b c : Bool) → (b ≡ true → c ≡ true) → (c ≡ true → b ≡ true) → b ≡ c
 both true c p q = sym (p refl)
@@ -26,28 +26,28 @@ both false true p q = q refl
 both false false p q = refl
 
 module _ (s : List ℕ) (h : Header) (g : ReadableAs s h) where
-  few-states : f s h g .states ≤ 256
-  unfolding f
+  few-states : L s h g .states ≤ 256
+  unfolding L
   few-states =
       let e = lts-states s h (g .header) in
       let b = g .recorded .sized .bounds in
       omega (arith, e)
 
   -- ## Rule 6
-  chain-codes : (p : ℕ) → p < h .states → map (successor (normal (f s h g)) h) (chain (normal (f s h g)) h p) ≡ map code (transitionsOf (f s h g) p)
-  chain-codes p l = rw (chain-on s h g p l) (rw add-zero at (successors-on s h g p l (length (transitionsOf (f s h g) p)) 0 (omega arith)))
+  chain-codes : (p : ℕ) → p < h .states → map (successor (normal (L s h g)) h) (chain (normal (L s h g)) h p) ≡ map code (transitionsOf (L s h g) p)
+  chain-codes p l = rw (chain-on s h g p l) (rw add-zero at (successors-on s h g p l (length (transitionsOf (L s h g) p)) 0 (omega arith)))
 
-  successors-ok : successorsFit (normal (f s h g)) h ≡ true
+  successors-ok : successorsFit (normal (L s h g)) h ≡ true
   unfolding successorsFit
-  successors-ok = all-true _ (h .states) (λ p l. rw (chain-codes p l) (codes-distinct (f s h g) few-states p))
+  successors-ok = all-true _ (h .states) (λ p l. rw (chain-codes p l) (codes-distinct (L s h g) few-states p))
 
   pub normal-readable : ReadableAs (normal (ltsOf s)) h
-  unfolding f
+  unfolding L
   normal-readable = record { recorded = recorded s h g; header = sym (normal-header s h g); chains = chains-ok s h g; successors = successors-ok }
 
   -- ## The same Lts
   same-transition : (p a t : ℕ) → ltsOf (normal (ltsOf s)) .transition p a t ≡ ltsOf s .transition p a t
-  unfolding f
+  unfolding L
   same-transition p a t = both _ _ forth (λ e. back a (sound s h g p a t e) e)
     where
       n : ReadableAs (normal (ltsOf s)) h
@@ -72,7 +72,7 @@ module _ (s : List ℕ) (h : Header) (g : ReadableAs s h) where
           ∙ (ap (member (256 * suc a + t)) (chain-codes p (k .source)) ∙ codes-in (ltsOf s) few-states p a t (omega (arith, k, d)) (omega (arith, k, c)) e)
 
   same-terminating : (p : ℕ) → ltsOf (normal (ltsOf s)) .terminating p ≡ ltsOf s .terminating p
-  unfolding f
+  unfolding L
   same-terminating p = go (decLt p (h .states))
     where
       n : ReadableAs (normal (ltsOf s)) h
