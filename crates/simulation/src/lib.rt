@@ -1,9 +1,8 @@
 // Simulations and the termination preorder (document 01, "Grids"): the test on a transition table, and the calls on encodings.
 ghost use mathlib.Core.Path.{_≡_};
-ghost use mathlib.Core.Bool.{_&&_, _||_};
-ghost use Prim.Native.Nat.{ℕ, _+_, _*_, _<_, _≤_};
-ghost use lib.Dec.{eqb};
-ghost use lib.ListN.{length, getD};
+ghost use mathlib.Core.Bool.{_||_};
+ghost use Prim.Native.Nat.{_+_, _*_, _<_, _≤_};
+ghost use lib.ListN.{length};
 ghost use Rattle.lts.specs.System.{into, isSimulation, terminationPreorder};
 ghost use Rattle.lts.specs.Table.{Table, tableLts};
 ghost use Rattle.encoding.specs.Checked.{ReadableAs};
