@@ -1,4 +1,4 @@
--- A readable encoding's lts has as many transitions as the encoding has records.
+-- A readable encoding's Lts has as many transitions as the encoding has records.
 use Rattle.encoding.proofs.Chains.{chain-all, reached-all, Below, transition-known, successors-below, reached-below}
 use Prim.Native.Nat.{ℕ, zero, suc, _+_, _*_, _-_, _≤_, _<_, _%_}
 use mathlib.Core.Path.{_≡_, refl, sym, ap, _∙_}
@@ -79,7 +79,7 @@ module _ (s : List ℕ) (h : Header) (g : ReadableAs s h) where
         )
         (sym cut)
 
-    -- the transitions by the actions up to a are the steps below 256 * (a + 1)
+    -- the transitions by the actions up to a are the successors below 256 * (a + 1)
     by-successors : (a : ℕ) → a ≤ h .actions → length (transitionsBy (ltsOf s) p a) ≡ length (passing (256 * (a + 1)) is-successor)
     by-successors zero k = rw by-none (sym (passing-zero 256 is-successor (λ i u. no-successor i (λ q. let z = q .low in omega (arith, z)))))
     by-successors (suc a) k =

@@ -53,16 +53,16 @@ module _ (s : List ℕ) (h : Header) (g : ReadableAs s h) (p : ℕ) (l : p < h .
             (sym (transition-member s h g p a t l u))
 
 -- ## Where the loader stands: the transitions of state p by the actions up to a are written
-pub record Loading (f : Lts) (p n m : ℕ) (v : List ℕ) (i : ℕ) (s₀ a₀ t₀ : List ℕ) (a at : ℕ) (s₁ a₁ t₁ : List ℕ) : Type 0 where
+pub record Loading (L : Lts) (p n m : ℕ) (v : List ℕ) (i : ℕ) (s₀ a₀ t₀ : List ℕ) (a at : ℕ) (s₁ a₁ t₁ : List ℕ) : Type 0 where
   pub state : p < 256
   pub narrow : n ≤ 256
   pub few : m ≤ 64
-  pub last : m ≡ f .actions
-  pub hold : (x : ℕ) → passing n (stamped (p + 1) v x) ≡ passing (f .states) (f .transition p x)
+  pub last : m ≡ L .actions
+  pub hold : (x : ℕ) → passing n (stamped (p + 1) v x) ≡ passing (L .states) (L .transition p x)
   pub stamps : Stamps v (p + 1)
   pub up : a ≤ m
-  pub place : at ≡ i + length (transitionsBy f p a)
-  pub wrote : Wrote (transitionsBy f p a) i s₀ a₀ t₀ s₁ a₁ t₁
+  pub place : at ≡ i + length (transitionsBy L p a)
+  pub wrote : Wrote (transitionsBy L p a) i s₀ a₀ t₀ s₁ a₁ t₁
 
 pub loading-start : (s : List ℕ) (h : Header) (g : ReadableAs s h) (p : ℕ) (l : p < h .states) (m : List ℕ) (q : Stamps m p) {b : Bool} {m′ : List ℕ}
     (e : b ≡ fresh (p + 1) m (map (successor s h) (chain s h p))) (k : b ≡ true → m′ ≡ marked (p + 1) m (map (successor s h) (chain s h p)))
@@ -81,18 +81,18 @@ loading-start s h g p l m q e k i =
       wrote = rw by-none (wrote-none i);
     }
 
-module _ {f : Lts} {p n m : ℕ} {v : List ℕ} {i : ℕ} {s₀ a₀ t₀ : List ℕ} {a at : ℕ} {s₁ a₁ t₁ : List ℕ} (g : Loading f p n m v i s₀ a₀ t₀ a at s₁ a₁ t₁) where
-  grown : length (transitionsBy f p (a + 1)) ≡ length (transitionsBy f p a) + length (passing n (stamped (p + 1) v (a + 1)))
+module _ {L : Lts} {p n m : ℕ} {v : List ℕ} {i : ℕ} {s₀ a₀ t₀ : List ℕ} {a at : ℕ} {s₁ a₁ t₁ : List ℕ} (g : Loading L p n m v i s₀ a₀ t₀ a at s₁ a₁ t₁) where
+  grown : length (transitionsBy L p (a + 1)) ≡ length (transitionsBy L p a) + length (passing n (stamped (p + 1) v (a + 1)))
   grown = rw (by-more, length-append, to-length, g .hold (a + 1))
 
-  pub loading-room : a < m → at + length (passing n (stamped (p + 1) v (a + 1))) ≤ i + length (transitionsOf f p)
+  pub loading-room : a < m → at + length (passing n (stamped (p + 1) v (a + 1))) ≤ i + length (transitionsOf L p)
   loading-room l =
-      let e = by-all f p m (g .last) in
-      let k = by-grows f p m (a + 1) (omega arith) in
+      let e = by-all L p m (g .last) in
+      let k = by-grows L p m (a + 1) (omega arith) in
       rw (← e) (omega (arith, k, grown))
 
   pub loading-more : {r : ℕ} {s₂ a₂ t₂ : List ℕ} → a < m → r ≡ at + length (passing n (stamped (p + 1) v (a + 1)))
-      → Wrote (transitionsTo p (a + 1) (passing n (stamped (p + 1) v (a + 1)))) at s₁ a₁ t₁ s₂ a₂ t₂ → Loading f p n m v i s₀ a₀ t₀ (a + 1) r s₂ a₂ t₂
+      → Wrote (transitionsTo p (a + 1) (passing n (stamped (p + 1) v (a + 1)))) at s₁ a₁ t₁ s₂ a₂ t₂ → Loading L p n m v i s₀ a₀ t₀ (a + 1) r s₂ a₂ t₂
   loading-more l e w =
       record {
         state = g .state;
@@ -106,12 +106,12 @@ module _ {f : Lts} {p n m : ℕ} {v : List ℕ} {i : ℕ} {s₀ a₀ t₀ : List
         wrote = rw (by-more, ← g .hold (a + 1)) (wrote-append i _ _ (g .wrote) (rw (g .place) at w));
       }
 
-  pub loading-done : m ≤ a → (at ≡ i + length (transitionsOf f p)) × Wrote (transitionsOf f p) i s₀ a₀ t₀ s₁ a₁ t₁
+  pub loading-done : m ≤ a → (at ≡ i + length (transitionsOf L p)) × Wrote (transitionsOf L p) i s₀ a₀ t₀ s₁ a₁ t₁
   loading-done l =
       let u = g .up in
       let k = g .last in
-      let e : a ≡ f .actions = omega arith in
-      let q = by-all f p a e in
+      let e : a ≡ L .actions = omega arith in
+      let q = by-all L p a e in
       (rw (← q) (g .place), rw (← q) (g .wrote))
 
 -- ## The marks, offsets and transitions of the states below p are written

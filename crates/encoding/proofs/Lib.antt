@@ -3,6 +3,7 @@ pub mod Reader
 pub mod Chains
 pub mod Denotation
 pub mod Order
+pub mod Codes
 pub mod Writes
 pub mod Filling
 pub mod Counting
@@ -11,4 +12,6 @@ pub mod Bytes
 pub mod Outcomes
 pub mod NormalReads
 pub mod NormalChains
-pub mod NormalLaw
+pub mod NormalSame
+pub mod Laws
+pub mod Cases

@@ -4,7 +4,7 @@ use mathlib.Core.Path.{_≡_, refl, sym, _∙_}
 use mathlib.Core.Bool.{Bool, true, false, not, and-eq-true-iff}
 use mathlib.Core.List.{List}
 use native.Mathlib.Omega.{arith}
-use borrow.Author.Tests.{le-leb, lt-leb, not-true, not-false, eqb-true, leb-true}
+use borrow.Author.Tests.{eq-eqb, le-leb, lt-leb, not-true, not-false, eqb-true, leb-true}
 use lib.ListN.{length}
 use lib.Dec.{eqb}
 use Rattle.encoding.specs.declared.Header.{Header}
@@ -84,3 +84,21 @@ readable-of {s} {h} e =
       chains = e₆ .0;
       successors = e₇ .0;
     })
+
+-- ## And the other way round
+ranged : (h : Header) → Bounds h → inRange h ≡ true
+unfolding inRange
+ranged h b = rw (le-leb 1 (h .states) (b .state), le-leb (h .states) 256 (b .states), le-leb (h .actions) 64 (b .actions), le-leb (h .transitions) 1024 (b .transitions))
+
+-- an encoding that keeps the rules is read
+pub reads : (s : List ℕ) (h : Header) → ReadableAs s h → readEncoding s ≡ Readable h
+reads s h g =
+    let b = g .recorded .sized .bounds in
+    let z = g .recorded .sized .long in
+    let e₁ = start s h (omega arith) (g .header) in
+    let e₂ = pass _ _ _ e₁ (sym (ranged h b)) refl in
+    let e₃ = pass _ _ _ e₂ (sym (eq-eqb _ _ z)) refl in
+    let e₄ = pass _ _ _ e₃ (sym (g .recorded .states)) refl in
+    let e₅ = pass _ _ _ e₄ (sym (g .recorded .transitions)) refl in
+    let e₆ = pass _ _ _ e₅ (sym (g .chains)) refl in
+    pass _ _ _ e₆ (sym (g .successors)) refl

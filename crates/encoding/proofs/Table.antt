@@ -1,5 +1,5 @@
 -- The table that the loader leaves holds the Lts of the encoding: what `Loaded` says follows from the order, the marks and the offsets.
-use Prim.Native.Nat.{ℕ, zero, suc, _+_, _≤_, _<_}
+use Prim.Native.Nat.{ℕ, zero, suc, _+_, _*_, _-_, _≤_, _<_}
 use mathlib.Core.Path.{_≡_, refl, sym, ap, _∙_, fun-ext, subst}
 use mathlib.Core.Logic.{_↔_}
 use mathlib.Core.Bool.{Bool, true, false, cond, _&&_}
@@ -20,10 +20,11 @@ use Rattle.encoding.specs.declared.Header.{Header}
 use Rattle.encoding.specs.Denotation.{ltsOf}
 use Rattle.encoding.specs.Normal.{Transition, transitions, transitionsBelow}
 use Rattle.encoding.specs.Checked.{ReadableAs}
-use Rattle.encoding.specs.Loaded.{tableTransitions, Buffers, Loaded, Wrote}
+use Rattle.encoding.specs.Loaded.{tableTransitions, rank, Buffers, Loaded, Wrote}
 use Rattle.encoding.proofs.Denotation.{lts-states, lts-actions, lts-terminating, Sound, sound, true-of}
-use Rattle.encoding.proofs.Order.{nth, every-nth, Sourced, all-keep, source-is, row, up-grows, placed}
+use Rattle.encoding.proofs.Order.{nth, every-nth, Sourced, all-keep, source-is, row, up-grows, placed, Row, state-nth, up-length, row-order}
 use Rattle.encoding.proofs.Counting.{all-count}
+use Rattle.encoding.proofs.Codes.{code, codes-rising}
 use Rattle.encoding.proofs.Chains.{zeros-long}
 use Rattle.encoding.proofs.Writes.{wrote-long}
 use Rattle.encoding.proofs.Filling.{Filling}
@@ -133,6 +134,61 @@ module _ (s : List ℕ) (h : Header) (g : ReadableAs s h) (marks offsets sources
         in-row : (p i : ℕ) → i < getD offsets (p + 1) 0 → getD offsets (suc p) 0 ≡ length (transitionsBelow (ltsOf s) (suc p)) → i < length (transitionsBelow (ltsOf s) (suc p))
         in-row p i v q = rw (add-one, q) at v
 
+    -- ## Normal order
+    code-at : (i : ℕ) → i < h .transitions → code (nth all i) ≡ 256 * getD actions i 0 + getD targets i 0
+    unfolding code
+    code-at i l = rw (at i l)
+
+    few : ltsOf s .states ≤ 256
+    few = let e = lts-states s h (g .header) in let b = g .recorded .sized .bounds in omega (arith, e)
+
+    within : (p i j : ℕ) → p < h .states → length (transitionsBelow (ltsOf s) p) ≤ i → i < j → j < length (transitionsBelow (ltsOf s) (suc p))
+        → code (nth all i) < code (nth all j)
+    unfolding all
+    within p i j l u v w =
+        let z = up-length (ltsOf s) p in
+        let o = length (transitionsBelow (ltsOf s) p) in
+        let ei : i ≡ o + (i - o) = omega arith in
+        let ej : j ≡ o + (j - o) = omega arith in
+        rw (ei, ej, state-nth (ltsOf s) (h .states) p (i - o) l (omega arith), state-nth (ltsOf s) (h .states) p (j - o) l (omega arith))
+        (codes-rising (ltsOf s) few p (i - o) (j - o) (omega arith) (omega arith))
+
+    rising : (i j : ℕ) → i < j → j < h .transitions → rank sources actions targets i < rank sources actions targets j
+    unfolding all
+    rising i j l u =
+        let c = count in
+        go (row (ltsOf s) (h .states) i (omega arith)) (row (ltsOf s) (h .states) j (omega arith))
+      where
+        go : Row (ltsOf s) (h .states) i → Row (ltsOf s) (h .states) j → rank sources actions targets i < rank sources actions targets j
+        go p q = by (decLt (p .state) (q .state))
+          where
+            si : getD sources i 0 ≡ p .state
+            si = source-of i (omega arith) ∙ source-is (ltsOf s) (h .states) (p .state) i (p .under) (p .low) (p .high)
+
+            sj : getD sources j 0 ≡ q .state
+            sj = source-of j u ∙ source-is (ltsOf s) (h .states) (q .state) j (q .under) (q .low) (q .high)
+
+            by : Dec (p .state < q .state) → rank sources actions targets i < rank sources actions targets j
+            by (yes k) =
+                let b = g .recorded .sized .bounds in
+                let a = table .action i (omega arith) in
+                let t = table .target i (omega arith) in
+                let x = si in
+                let y = sj in
+                omega arith
+            by (no k) =
+                let m = q .high in
+                let o = p .low in
+                let r = row-order (ltsOf s) (h .states) i j l p q in
+                let e : q .state ≡ p .state = omega (arith, k, r) in
+                let w : j < length (transitionsBelow (ltsOf s) (suc (p .state))) = rw e at m in
+                let v = within (p .state) i j (p .under) o l w in
+                let x = si in
+                let y = sj in
+                let ci = code-at i (omega arith) in
+                let cj = code-at j u in
+                omega (arith, v, ci, cj)
+
     -- ## The same Lts
     same-terminating : (p : ℕ) → ltsOf s .terminating p ≡ markedSet (h .states) marks p
     unfolding markedSet
@@ -202,6 +258,7 @@ module _ (s : List ℕ) (h : Header) (g : ReadableAs s h) (marks offsets sources
       rows = rows;
       same = same;
       order = order ∙ sym (all-is s h g);
+      rising = rising;
       mark = mark;
       offset = offset;
       buffers = buffers;

@@ -6,3 +6,4 @@ pub mod Normalise
 pub mod Checked
 pub mod Marks
 pub mod Loaded
+pub mod Laws

@@ -1,5 +1,5 @@
 -- What the loader leaves in its buffers. The crates above work on these and never on an encoding's bytes.
-use Prim.Native.Nat.{ℕ, zero, suc, _+_, _≤_, _<_}
+use Prim.Native.Nat.{ℕ, zero, suc, _+_, _*_, _≤_, _<_}
 use mathlib.Core.Path.{_≡_}
 use mathlib.Core.Bool.{cond}
 use mathlib.Core.List.{List, [], _∷_, map}
@@ -18,6 +18,10 @@ tableTransitions sources actions targets i zero = []
 tableTransitions sources actions targets i (suc k) =
     record { source = getD sources i 0; action = getD actions i 0; target = getD targets i 0 } ∷ tableTransitions sources actions targets (suc i) k
 
+-- the place of transition number i in normal order, as one number: by source, then action, then target
+abbrev pub rank : List ℕ → List ℕ → List ℕ → ℕ → ℕ
+rank sources actions targets i = 65536 * getD sources i 0 + (256 * getD actions i 0 + getD targets i 0)
+
 -- Buffers of the lengths that the loader fills. (Fresh local arrays are: the law `fresh-buffers`, proofs/Table.antt.)
 pub record Buffers (m o s a t : List ℕ) : Type 0 where
   pub marks : length m ≡ 256
@@ -35,6 +39,7 @@ pub record Loaded (s : List ℕ) (h : Header) (marks offsets sources actions tar
   pub same : ltsOf s ≡ withTerminating (markedSet (h .states) marks) (tableLts (h .states) (h .actions) (h .transitions) sources actions targets)
   -- the table is in normal order
   pub order : tableTransitions sources actions targets 0 (h .transitions) ≡ transitions (ltsOf s)
+  pub rising : (i j : ℕ) → i < j → j < h .transitions → rank sources actions targets i < rank sources actions targets j
   -- each mark is 0 or 1, and each offset counts the transitions of the states before
   pub mark : (p : ℕ) → p < h .states → getD marks p 0 ≡ cond (ltsOf s .terminating p) 1 0
   pub offset : (p : ℕ) → p ≤ h .states → getD offsets p 0 ≡ length (transitionsBelow (ltsOf s) p)

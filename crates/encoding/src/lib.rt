@@ -72,7 +72,7 @@ fn put_two(out: &mut [u8], at: usize, x: usize)
 impl Header {
     pub const BYTES: usize = 6;
 
-    pub fn new(states: usize, actions: usize, transitions: usize) -> Header
+    fn new(states: usize, actions: usize, transitions: usize) -> Header
         ensures { λ r. ⌜ r ≡ record { states = states; actions = actions; transitions = transitions } ⌝ }
     {
         Header {
@@ -126,7 +126,7 @@ impl Header {
     }
 
     // The length of the whole encoding.
-    pub fn length(self) -> usize
+    fn length(self) -> usize
         requires { ⌜ Bounds self ⌝ }
         ensures { λ r. ⌜ r ≡ encodingLength self ⌝ }
     {
@@ -137,7 +137,7 @@ impl Header {
 impl StateRecord {
     pub const BYTES: usize = 4;
 
-    pub fn new(mark: u8, spare: u8, first: usize) -> StateRecord
+    fn new(mark: u8, spare: u8, first: usize) -> StateRecord
         ensures { λ r. ⌜ r ≡ record { mark = mark; spare = spare; first = first } ⌝ }
     {
         StateRecord {
@@ -173,7 +173,7 @@ impl StateRecord {
 impl TransitionRecord {
     pub const BYTES: usize = 6;
 
-    pub fn new(action: u8, spare: u8, target: usize, next: usize) -> TransitionRecord
+    fn new(action: u8, spare: u8, target: usize, next: usize) -> TransitionRecord
         ensures { λ r. ⌜ r ≡ record { action = action; spare = spare; target = target; next = next } ⌝ }
     {
         TransitionRecord {
@@ -494,7 +494,8 @@ fn load_state(
     at
 }
 
-// Fills the transition table of a readable encoding: the end marks, the row offsets, and the transitions in normal order.
+// Fills the transition table of a readable encoding: the end marks, the row offsets, and the transitions in normal order. What it
+// requires follows from the reader's answer (`readable-of`) and of fresh arrays (`fresh-buffers`).
 pub fn load(
     s: &[u8],
     h: Header,
