@@ -8,9 +8,9 @@ use native.Mathlib.Nat.{not-suc-le-zero, le-of-suc-le-suc, zero-add, add-zero, a
 use native.Mathlib.Numerals.{add-one}
 use native.Mathlib.Omega.{arith}
 use lib.Dec.{T}
-use lib.ListN.{length, drop-of-length-le, getD, set, drop, length-append, length-drop}
+use lib.ListN.{length, drop-of-length-le, getD, set, drop}
 use lib.Seq.{ext-getD}
-use Rattle.lts.specs.Bounded.{_⇒_, anyBelow, allBelow, sumBelow, listBelow, lowest}
+use Rattle.lts.specs.Bounded.{anyBelow, allBelow, sumBelow, listBelow, lowest}
 use Rattle.lts.proofs.Bounded.{any-iff}
 
 pub lt-or-ge : (a b : ℕ) → (a < b) ⊎ (b ≤ a)
@@ -45,13 +45,6 @@ and-fst false b e = e
 pub and-snd : (a b : Bool) → a && b ≡ true → b ≡ true
 and-snd true b e = e
 and-snd false b e = absurd (clash e refl)
-
-pub implies-of : (a b : Bool) → (a ≡ true → b ≡ true) → _⇒_ a b ≡ true
-implies-of true b f = f refl
-implies-of false b f = refl
-
-pub implies-use : (a b : Bool) → _⇒_ a b ≡ true → a ≡ true → b ≡ true
-implies-use a b e p = sym (ap (λ (x : Bool). _⇒_ x b) p) ∙ e
 
 -- ---- every number below a bound
 
@@ -148,11 +141,6 @@ unfolding sumBelow
 sum-zero zero f e = refl
 sum-zero (suc k) f e = omega (arith, sum-zero k f (λ i h. e i (omega arith)), e k (le-refl (suc k)))
 
-pub sum-le : (k m : ℕ) (f : ℕ → ℕ) → ((i : ℕ) → i < k → f i ≤ m) → sumBelow k f ≤ k * m
-unfolding sumBelow
-sum-le zero m f e = zero-le
-sum-le (suc k) m f e = omega (arith, sum-le k m f (λ i h. e i (omega arith)), e k (le-refl (suc k)), suc-mul k m)
-
 -- a sum over a rows of b
 pub sum-mul : (a b : ℕ) (f : ℕ → ℕ) → sumBelow (a * b) f ≡ sumBelow a (λ i. sumBelow b (λ j. f (i * b + j)))
 unfolding sumBelow
@@ -245,9 +233,6 @@ listBelow-add (suc a) b f =
     (listBelow-add a b (λ i. f (suc i)) ∙ ap (λ (t : List ℕ). listBelow a (λ i. f (suc i)) ++ t) (listBelow-cong b _ _ (λ i h. ap f (sym (suc-add a i)))))
 
 -- ---- a loop that fills a list from the front, one store a turn: after n turns it is `listBelow n f ++ drop n d`
-
-pub length-fill : (n : ℕ) (f : ℕ → ℕ) (d : List ℕ) → n ≤ length d → length (listBelow n f ++ drop n d) ≡ length d
-length-fill n f d h = omega (arith, length-append (listBelow n f) (drop n d), length-listBelow n f, length-drop n d)
 
 -- what is not yet filled is as it was
 pub getD-fill : (n : ℕ) (f : ℕ → ℕ) (d : List ℕ) → getD (listBelow n f ++ drop n d) n 0 ≡ getD d n 0

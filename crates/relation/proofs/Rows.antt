@@ -3,19 +3,19 @@ use mathlib.Core.Path.{_≡_, refl, sym, ap, ap₂, _∙_}
 use mathlib.Core.Bool.{Bool, true, false, not, _&&_, _||_, xor}
 use mathlib.Core.Logic.{_⊎_, inl, inr, ⊎-elim}
 use mathlib.Core.List.{List, _++_}
-use Prim.Native.Nat.{ℕ, _+_, _-_, _*_, _/_, _%_, _^_, _≤_, _<_}
+use Prim.Native.Nat.{ℕ, zero, suc, _+_, _-_, _*_, _/_, _%_, _^_, _≤_, _<_}
 use native.Mathlib.Nat.{div-add-mod', mod-lt, eq-or-lt-of-le}
 use native.Mathlib.Omega.{arith}
 use lib.Bits.{bitAnd, bitOr, bitXor, and-lt, or-lt, xor-lt, and-le-l}
 use lib.Arith.{digits-div, digits-mod}
-use lib.ListN.{length, List·getD-append, getD, set, drop, length-set}
+use lib.ListN.{length, replicate, List·getD-append, getD, set, drop, length-set}
 use lib.Seq.{getD-drop, getD-append-add, getD-set-same, getD-set-other}
 use lib.Dec.{eqb}
 use lib.Pow.{pow-pos}
 use borrow.Author.Tests.{eq-eqb, ne-eqb}
 use Rattle.lts.specs.Bounded.{anyBelow}
 use Rattle.relation.specs.Matrix.{bit, inRow, wordAt, rowOf}
-use Rattle.relation.proofs.Bits.{word-ext, wordOf-lt, bit-wordOf, bit-and, bit-or, bit-xor, bit-not, bit-pow, one-shl}
+use Rattle.relation.proofs.Bits.{bit-of-zero, word-ext, wordOf-lt, bit-wordOf, bit-and, bit-or, bit-xor, bit-not, bit-pow, one-shl}
 use Rattle.relation.proofs.Bounded.{any-more, listBelow-cong, getD-listBelow, length-listBelow, fill-more, getD-fill, list-ext, lt-or-ge}
 
 -- ---- a row of words
@@ -55,6 +55,16 @@ inRow-rest k S d q h l =
     let back : k + (q / 64 - k) ≡ q / 64 = omega arith in
     ap (λ (x : ℕ). bit x (q % 64))
     (ap (λ (j : ℕ). getD (rowOf k S ++ drop k d) j 0) split ∙ getD-append-add (rowOf k S) (drop k d) (q / 64 - k) 0 ∙ getD-drop k d (q / 64 - k) 0 ∙ ap (λ (j : ℕ). getD d j 0) back)
+
+-- words of zeros
+pub getD-zeros : (k j : ℕ) → getD (replicate {A = ℕ} k 0) j 0 ≡ 0
+getD-zeros zero j = refl
+getD-zeros (suc k) zero = refl
+getD-zeros (suc k) (suc j) = getD-zeros k j
+
+pub inRow-zeros : (k q : ℕ) → inRow (replicate k 0) q ≡ false
+unfolding inRow
+inRow-zeros k q = ap (λ (x : ℕ). bit x (q % 64)) (getD-zeros k (q / 64)) ∙ bit-of-zero (q % 64)
 
 -- words of the same members are the same
 pub rowOf-cong : (k : ℕ) (A B : ℕ → Bool) → ((q : ℕ) → q < k * 64 → A q ≡ B q) → rowOf k A ≡ rowOf k B

@@ -2,7 +2,7 @@
 use mathlib.Core.Path.{_≡_, refl, ap, _∙_}
 use mathlib.Core.Bool.{Bool, true, false, _&&_}
 use mathlib.Core.List.{List}
-use Prim.Native.Nat.{ℕ, zero, suc, _<_}
+use Prim.Native.Nat.{ℕ, _<_}
 use lib.Dec.{eqb, ltb}
 use lib.ListN.{getD, replicate}
 use borrow.Author.Tests.{lt-ltb}
@@ -10,6 +10,7 @@ use Rattle.lts.specs.Bounded.{_⇒_}
 use Rattle.lts.specs.System.{Lts, terminationPreorder}
 use Rattle.lts.specs.Table.{markedSet, withTerminating}
 use Rattle.relation.specs.Matrix.{matrixOf}
+use Rattle.relation.proofs.Rows.{getD-zeros}
 use Rattle.relation.proofs.Matrices.{matrixOf-cong}
 
 -- the relation that is written is the termination preorder of any system with these marks
@@ -24,13 +25,8 @@ marked-at n marks p h = ap (λ (b : Bool). b && eqb (getD marks p 0) 1) (lt-ltb 
 -- with no mark every pair is related
 none-marked : (n k p : ℕ) → markedSet n (replicate k 0) p ≡ false
 unfolding markedSet
-none-marked n k p = ap (λ (x : ℕ). ltb p n && eqb x 1) (zeros k p) ∙ never (ltb p n)
+none-marked n k p = ap (λ (x : ℕ). ltb p n && eqb x 1) (getD-zeros k p) ∙ never (ltb p n)
   where
-    zeros : (k p : ℕ) → getD (replicate {A = ℕ} k 0) p 0 ≡ 0
-    zeros zero p = refl
-    zeros (suc k) zero = refl
-    zeros (suc k) (suc p) = zeros k p
-
     never : (b : Bool) → b && false ≡ false
     never true = refl
     never false = refl

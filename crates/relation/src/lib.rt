@@ -2,7 +2,7 @@
 ghost use mathlib.Core.Path.{_≡_};
 ghost use mathlib.Core.Bool.{true, false, not, _&&_, _||_, xor};
 ghost use mathlib.Core.List.{_++_};
-ghost use Prim.Native.Nat.{ℕ, _+_, _*_, _/_, _%_, _<_, _≤_};
+ghost use Prim.Native.Nat.{_+_, _*_, _/_, _%_, _<_, _≤_};
 ghost use lib.Dec.{eqb};
 ghost use lib.ListN.{length, drop};
 ghost use Rattle.lts.specs.Bounded.{_⇒_, anyBelow, lowest};
@@ -81,7 +81,7 @@ pub fn row_union(row: &mut [u64], mask: &[u64], k: usize)
     }
 }
 
-// Leaves the states of `mask` alone in the row's first k words.
+// Keeps only the states of `mask` in the row's first k words.
 pub fn row_intersect(row: &mut [u64], mask: &[u64], k: usize)
     requires { ⌜ (k ≤ length (now row)) × (k ≤ length (now mask)) ⌝ }
     ensures { λ _. ⌜ now (row .exit) ≡ rowOf k (λ q. inRow (now (row .entry)) q && inRow (now (mask .entry)) q) ++ drop k (now (row .entry)) ⌝ }
@@ -135,7 +135,7 @@ pub fn row_meets(a: &[u64], b: &[u64], k: usize) -> bool
     false
 }
 
-// Whether the first k words of a and b hold other states.
+// Whether the first k words of a and b hold different states.
 pub fn row_differs(a: &[u64], b: &[u64], k: usize) -> bool
     requires { ⌜ (k ≤ length (now a)) × (k ≤ length (now b)) ⌝ }
     ensures { λ r. ⌜ r ≡ anyBelow (k * 64) (λ q. xor (inRow (now (a .entry)) q) (inRow (now (b .entry)) q)) ⌝ }
@@ -229,7 +229,7 @@ pub fn copy_row(grid: &mut [u64], n: usize, p: usize, from: &[u64], q: usize)
     set_row(grid, n, p, row_at(from, n, q));
 }
 
-// Leaves the states of `mask` alone in row p.
+// Keeps only the states of `mask` in row p.
 pub fn keep_states(grid: &mut [u64], n: usize, p: usize, mask: &[u64])
     requires { ⌜ Matrix n (now grid) × (n ≤ 256) × (p < n) × (rowWords n ≤ length (now mask)) ⌝ }
     ensures { λ _. ⌜ now (grid .exit) ≡ matrixOf n (setRow p (λ q. relationOf n (now (grid .entry)) p q && inRow (now (mask .entry)) q) (relationOf n (now (grid .entry)))) ⌝ }
@@ -319,7 +319,7 @@ pub fn is_reflexive(grid: &[u64], n: usize) -> bool
     true
 }
 
-// Whether what q is related to is what p is, if (p, q) is in the matrix.
+// Whether p is related to each state that q is related to, if p is related to q.
 fn transitive_pair(grid: &[u64], n: usize, p: usize, q: usize) -> bool
     requires { ⌜ Matrix n (now grid) × (n ≤ 256) × (p < n) × (q < n) ⌝ }
     ensures { λ r. ⌜ r ≡ transitivePair n (relationOf n (now (grid .entry))) p q ⌝ }
@@ -331,6 +331,7 @@ fn transitive_pair(grid: &[u64], n: usize, p: usize, q: usize) -> bool
     row_within(row_at(grid, n, q), row_at(grid, n, p), w)
 }
 
+// The same for each q.
 fn transitive_at(grid: &[u64], n: usize, p: usize) -> bool
     requires { ⌜ Matrix n (now grid) × (n ≤ 256) × (p < n) ⌝ }
     ensures { λ r. ⌜ r ≡ transitiveAt n (relationOf n (now (grid .entry))) p ⌝ }
@@ -345,6 +346,7 @@ fn transitive_at(grid: &[u64], n: usize, p: usize) -> bool
     true
 }
 
+// The same for each p and q.
 pub fn is_transitive(grid: &[u64], n: usize) -> bool
     requires { ⌜ Matrix n (now grid) × (n ≤ 256) ⌝ }
     ensures { λ r. ⌜ r ≡ transitiveBelow n (relationOf n (now (grid .entry))) ⌝ }

@@ -2,7 +2,7 @@
 use mathlib.Core.Path.{_≡_, refl, sym, ap, _∙_, subst, subst⁻¹, fun-ext}
 use mathlib.Core.Bool.{Bool, true, false, _&&_, _||_}
 use mathlib.Core.List.{List}
-use Prim.Native.Nat.{ℕ, zero, suc, _*_, _/_, _%_, _≤_, _<_}
+use Prim.Native.Nat.{ℕ, _*_, _≤_, _<_}
 use lib.Dec.{T, eqb, eqb→eq, eqb-refl}
 use lib.ListN.{length, getD, drop, replicate}
 use Rattle.lts.specs.Bounded.{_⇒_, anyBelow, allBelow}
@@ -11,10 +11,9 @@ use Rattle.lts.specs.Table.{Table, tableLts}
 use Rattle.lts.proofs.Bounded.{and-iff, imp-iff, any-iff, all-iff, test-ext}
 use Rattle.lts.proofs.System.{into-to, into-from, answered-iff, within-iff}
 use Rattle.relation.specs.Check.{includedBelow}
-use Rattle.relation.specs.Matrix.{bit, wordAt, inRow, rowOf, rowWords, relationOf, Matrix}
+use Rattle.relation.specs.Matrix.{wordAt, inRow, rowOf, rowWords, relationOf, Matrix}
 use Rattle.relation.proofs.Bounded.{length-listBelow}
-use Rattle.relation.proofs.Bits.{bit-of-zero}
-use Rattle.relation.proofs.Rows.{inRow-of}
+use Rattle.relation.proofs.Rows.{inRow-of, inRow-zeros}
 use Rattle.relation.proofs.Matrices.{inRow-drop}
 use Rattle.relation.proofs.Checks.{row-included}
 use native.Mathlib.Omega.{arith}
@@ -30,15 +29,6 @@ hit sources actions targets a X q j = eqb q (getD sources j 0) && enters actions
 
 pub set-fits : (n : ℕ) (S : Set) → n ≤ 256 → rowWords n ≤ length (rowOf 4 S)
 set-fits n S h = omega (arith, length-listBelow 4 (wordAt S))
-
-inRow-none : (k q : ℕ) → inRow (replicate k 0) q ≡ false
-unfolding inRow
-inRow-none k q = ap (λ (x : ℕ). bit x (q % 64)) (zeros k (q / 64)) ∙ bit-of-zero (q % 64)
-  where
-    zeros : (k p : ℕ) → getD (replicate {A = ℕ} k 0) p 0 ≡ 0
-    zeros zero p = refl
-    zeros (suc k) zero = refl
-    zeros (suc k) (suc p) = zeros k p
 
 module _ (sources actions targets : List ℕ) (a : ℕ) (X : Set) (j : ℕ) where
   pub hit-on : enters actions targets a X j ≡ true → (q : ℕ) → hit sources actions targets a X q j ≡ eqb q (getD sources j 0)
@@ -113,5 +103,5 @@ module _ (sources actions targets : List ℕ) (n m k : ℕ) (ok : Table n m k so
       ap (λ (l : List ℕ). includedBelow (rowWords n * 64) (inRow l) (inRow set)) e
       ∙ row-included n g p (inRow set) (into L a (relationOf n g t)) formed hp (λ q h.
       ap (λ (l : List ℕ). inRow l q) s ∙ inRow-of 4 (λ q. inRow (replicate 4 0) q || into L a (inRow reached) q) q (omega (arith, ok .states))
-      ∙ ap (λ (b : Bool). b || into L a (inRow reached) q) (inRow-none 4 q)
+      ∙ ap (λ (b : Bool). b || into L a (inRow reached) q) (inRow-zeros 4 q)
       ∙ ap (λ (X : Set). into L a X q) (ap inRow f ∙ fun-ext (λ x. inRow-drop (rowWords n) g t x)))

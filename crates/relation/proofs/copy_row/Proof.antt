@@ -1,3 +1,4 @@
+-- `relation::copy_row` meets its contract: by `set_row`, with the other matrix's row. Assumes nothing.
 use mathlib.Core.Path.{ap, _∙_, subst⁻¹}
 use mathlib.Core.Bool.{Bool, cond}
 use mathlib.Core.List.{List}

@@ -1,3 +1,4 @@
+-- `relation::count_pairs` meets its contract: the ones of the words, summed, are the pairs. Assumes nothing.
 use mathlib.Core.Path.{_≡_, _∙_}
 use Prim.Native.Nat.{_≤_, _<_, _*_, _-_, _^_}
 use native.Mathlib.Omega.{arith}

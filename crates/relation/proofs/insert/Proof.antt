@@ -1,3 +1,4 @@
+-- `relation::insert` meets its contract: by `row-insert`. Assumes nothing.
 use denote.Ref.{now}
 use Rattle.relation.proofs.Rows.{row-insert}
 use borrow.Author.Needs.{needs}

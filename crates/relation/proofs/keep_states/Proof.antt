@@ -1,3 +1,4 @@
+-- `relation::keep_states` meets its contract: by `row-zipped`. Assumes nothing.
 use mathlib.Core.Path.{refl}
 use mathlib.Core.Bool.{_&&_}
 use Prim.Native.Nat.{_≤_, _+_, _*_}

@@ -1,3 +1,4 @@
+-- `relation::lowest_state` meets its contract: by the trailing zeros of the first word that is not 0. Assumes nothing.
 use mathlib.Core.Path.{_≡_, ap, _∙_}
 use mathlib.Core.Bool.{false}
 use Prim.Native.Nat.{ℕ, _≤_, _<_, _*_, _-_}

@@ -1,3 +1,4 @@
+-- `relation::matrix_within` meets its contract: a matrix is one long row. Assumes nothing.
 use mathlib.Core.Path.{_∙_}
 use Rattle.relation.proofs.Checks.{matrix-included}
 use borrow.Author.Needs.{needs}

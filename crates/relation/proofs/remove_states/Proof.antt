@@ -1,3 +1,4 @@
+-- `relation::remove_states` meets its contract: by `row-zipped`. Assumes nothing.
 use mathlib.Core.Path.{refl, _∙_}
 use mathlib.Core.Bool.{not, _&&_}
 use Prim.Native.Nat.{_≤_, _+_, _*_}

@@ -1,3 +1,4 @@
+-- `relation::row_at` meets its contract: a part from the row's first word on. Assumes nothing.
 use Prim.Native.Nat.{_≤_, _+_, _*_}
 use native.Mathlib.Omega.{arith}
 use lib.ListN.{length}

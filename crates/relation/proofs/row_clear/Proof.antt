@@ -1,3 +1,4 @@
+-- `relation::row_clear` meets its contract: by `row-more`. Assumes nothing.
 use mathlib.Core.Path.{_≡_}
 use mathlib.Core.List.{_++_}
 use Prim.Native.Nat.{_≤_, _-_}

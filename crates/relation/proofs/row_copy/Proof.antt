@@ -1,3 +1,4 @@
+-- `relation::row_copy` meets its contract: by `row-more`. Assumes nothing.
 use mathlib.Core.Path.{_≡_, sym}
 use mathlib.Core.List.{_++_}
 use Prim.Native.Nat.{_≤_, _-_}

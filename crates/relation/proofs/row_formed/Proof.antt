@@ -1,3 +1,4 @@
+-- `relation::row_formed` meets its contract: no bit of the last word from n on. Assumes nothing.
 use Prim.Native.Nat.{_<_, _+_, _*_, _/_}
 use native.Mathlib.Omega.{arith}
 use lib.ListN.{length}

@@ -1,3 +1,4 @@
+-- `relation::row_within` meets its contract: by `word-found` and `word-passed`. Assumes nothing.
 use Rattle.relation.proofs.Rows.{minus-bitwise}
 use mathlib.Core.Bool.{false, not, _&&_}
 use mathlib.Core.Path.{_≡_, ap, _∙_}

@@ -1,3 +1,4 @@
+-- `relation::set_row` meets its contract: by `row-written`. Assumes nothing.
 use Prim.Native.Nat.{_≤_, _+_, _*_}
 use native.Mathlib.Omega.{arith}
 use lib.ListN.{length, length-drop}

@@ -1,3 +1,4 @@
+-- `relation::termination_bit` meets its contract: by the cases of the code. Assumes nothing.
 use borrow.Author.Tests.{le-ltb, lt-ltb, eq-eqb, ne-eqb}
 use Rattle.lts.specs.Table.{markedSet}
 use borrow.Author.Needs.{needs}

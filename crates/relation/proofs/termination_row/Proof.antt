@@ -1,3 +1,4 @@
+-- `relation::termination_row` meets its contract: word by word. Assumes nothing.
 use mathlib.Core.Path.{_≡_}
 use mathlib.Core.List.{_++_}
 use Prim.Native.Nat.{_≤_, _-_}

@@ -1,3 +1,4 @@
+-- `relation::termination_word` meets its contract: from the highest bit down. Assumes nothing.
 use mathlib.Core.Path.{_≡_, sym, ap, _∙_}
 use mathlib.Core.Bool.{Bool}
 use mathlib.Core.List.{List}

@@ -1,3 +1,4 @@
+-- `relation::transitive_pair` meets its contract: the row of q lies within the row of p. Assumes nothing.
 use Rattle.relation.proofs.Checks.{pair-none, pair-some, rows-within}
 use mathlib.Core.Path.{sym, ap₂, _∙_, subst⁻¹}
 use mathlib.Core.List.{List}

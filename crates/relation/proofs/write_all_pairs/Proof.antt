@@ -1,3 +1,4 @@
+-- `relation::write_all_pairs` meets its contract: the termination preorder with no mark. Assumes nothing.
 use mathlib.Core.Path.{_∙_}
 use Rattle.relation.proofs.Termination.{all-pairs}
 use borrow.Author.Needs.{needs}

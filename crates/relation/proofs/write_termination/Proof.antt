@@ -1,3 +1,4 @@
+-- `relation::write_termination` meets its contract: row by row, each lent from its first word on. Assumes nothing.
 use mathlib.Core.Path.{_≡_, sym, ap, _∙_}
 use mathlib.Core.Bool.{Bool}
 use mathlib.Core.List.{_++_}

@@ -1,3 +1,4 @@
+-- `simulation::add_into` meets its contract: what is gathered transition by transition is what `into` says. Assumes nothing.
 use Rattle.simulation.proofs.Answers.{hit-on, hit-off, hit, into-table}
 use Rattle.relation.proofs.Bounded.{length-listBelow}
 use mathlib.Core.Path.{_≡_, sym, ap, _∙_}

@@ -1,3 +1,4 @@
+-- `simulation::answered_at` meets its contract: the row of the source lies within the states that answer. Assumes nothing.
 use mathlib.Core.Path.{_∙_, subst⁻¹}
 use mathlib.Core.List.{List}
 use Prim.Native.Nat.{ℕ, _≤_, _<_}

