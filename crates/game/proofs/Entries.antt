@@ -152,3 +152,41 @@ module _ (n m size : ℕ) (sources actions targets : List ℕ) where
           imp-iff (L .transition q a r) (won t r) .1 (λ u.
           let j = in-row q a r u in
           holds (rw (j .4) at (h (j .0) (j .1) (j .2) (j .3))))))
+
+-- p has a transition by a with every reply of q lost
+abbrev beatenBy : Lts → Rel → ℕ → ℕ → ℕ → Bool
+beatenBy L won p q a = anyState L (λ t. L .transition p a t && defenderLoses L won q a t)
+
+-- how many actions there are plays no part, as long as the table's are among them
+module _ (n size : ℕ) (sources actions targets : List ℕ) where
+  abbrev labelled : ℕ → Lts
+  labelled m = tableLts n m size sources actions targets
+
+  by-labels : (m m′ : ℕ) (won : Rel) (p q a : ℕ) → T (beatenBy (labelled m) won p q a) → T (beatenBy (labelled m′) won p q a)
+  unfolding tableLts anyState defenderLoses allStates
+  by-labels m m′ won p q a e = e
+
+  in-labels : (m : ℕ) → Table n m size sources actions targets → (a i : ℕ) → i < size → getD actions i 0 ≡ a → (1 ≤ a) × (a ≤ labelled m .actions)
+  unfolding tableLts
+  in-labels m table a i l e = (rw e at (table .named i l), rw e at (table .action i l))
+
+  beaten-labels : (m m′ : ℕ) → Table n m′ size sources actions targets → (won : Rel) (p q : ℕ) → T (beaten (labelled m) won p q) → T (beaten (labelled m′) won p q)
+  unfolding beaten
+  beaten-labels m m′ table won p q e =
+      let a = any-action-to (labelled m) (beatenBy (labelled m) won p q) e in
+      let t = any-state-iff (labelled m) (λ t. labelled m .transition p (a .0) t && defenderLoses (labelled m) won q (a .0) t) .0 (a .1) in
+      let c = and-iff (labelled m .transition p (a .0) (t .0)) (defenderLoses (labelled m) won q (a .0) (t .0)) .0 (t .2) in
+      let i = number n m size sources actions targets p (a .0) (t .0) (c .0) in
+      any-action-from (labelled m′) (beatenBy (labelled m′) won p q) (a .0)
+      (in-labels m′ table (a .0) (i .0) (i .1) (i .3)) (by-labels m m′ won p q (a .0) (a .1))
+
+  pub wins-labels : (m m′ : ℕ) → Table n m size sources actions targets → Table n m′ size sources actions targets
+      → (preorder : Rel) (rounds : ℕ) → challengerWins (labelled m) preorder rounds ≡ challengerWins (labelled m′) preorder rounds
+  unfolding challengerWins beaten
+  wins-labels m m′ table table′ preorder zero = refl
+  wins-labels m m′ table table′ preorder (suc k) =
+      ap (λ (W : Rel). λ p q. not (preorder p q) || beaten (labelled m) W p q) (wins-labels m m′ table table′ preorder k)
+      ∙ fun-ext (λ p. fun-ext (λ q. ap (λ (b : Bool). not (preorder p q) || b)
+      (test-ext (beaten (labelled m) (challengerWins (labelled m′) preorder k) p q) (beaten (labelled m′) (challengerWins (labelled m′) preorder k) p q)
+      (beaten-labels m m′ table′ (challengerWins (labelled m′) preorder k) p q)
+      (beaten-labels m′ m table (challengerWins (labelled m′) preorder k) p q))))
