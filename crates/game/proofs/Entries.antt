@@ -1,4 +1,5 @@
--- The turns of the bounded game on a transition table: a search of one state's row says what the definitions do of all transitions.
+-- The turns of the bounded game on a transition table: a search of one state's row says what the definitions do of all transitions. Belongs
+-- to lts.
 use Prim.Native.Nat.{ℕ, zero, suc, _+_, _-_, _<_, _≤_}
 use mathlib.Core.Path.{_≡_, refl, ap, subst, subst⁻¹, _∙_, fun-ext}
 use mathlib.Core.Logic.{⊎-elim}
