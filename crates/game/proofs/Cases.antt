@@ -1,7 +1,6 @@
 -- F6 of document 01 and the refusals 1, 11 and 12, computed from the definitions.
 use Prim.Native.Nat.{ℕ}
 use mathlib.Core.Path.{_≡_, refl}
-use mathlib.Core.Bool.{Bool, true, false}
 use mathlib.Core.List.{List, [], _∷_, _++_}
 use Rattle.lts.specs.Bounded.{anyBelow, allBelow, concatBelow}
 use Rattle.lts.specs.System.{allStates, anyState, anyAction}
@@ -12,7 +11,6 @@ use Rattle.encoding.specs.Encoding.{inRange, stateFits, statesFit, transitionFi
 use Rattle.encoding.specs.Denotation.{any, ltsOf}
 use Rattle.relation.specs.Matrix.{bit, inMatrix}
 use Rattle.relation.specs.Check.{reflexiveBelow, transitivePair, transitiveAt, transitiveBelow, isMatrix, checkPreorder}
-use Rattle.game.specs.declared.Played.{Played}
 use Rattle.game.specs.declared.Played.the-variants.{Won, NotWon, Refused}
 use Rattle.game.specs.Play.{unless, onPreorder, playReadable, playReading, handPlay}
 

@@ -1,6 +1,7 @@
--- The turns of the bounded game on a transition table: a search of one state's row says what the definitions do of all transitions.
+-- The turns of the bounded game on a transition table: a search of one state's row says what the definitions do of all transitions. Belongs
+-- to lts.
 use Prim.Native.Nat.{ℕ, zero, suc, _+_, _-_, _<_, _≤_}
-use mathlib.Core.Path.{_≡_, refl, sym, ap, subst, subst⁻¹, _∙_, fun-ext}
+use mathlib.Core.Path.{_≡_, refl, ap, subst, subst⁻¹, _∙_, fun-ext}
 use mathlib.Core.Logic.{⊎-elim}
 use mathlib.Core.Bool.{Bool, true, false, not, _&&_, _||_}
 use mathlib.Core.List.{List}
@@ -8,9 +9,9 @@ use native.Mathlib.Omega.{arith}
 use native.Mathlib.Nat.{not-suc-le-zero}
 use native.Mathlib.Numerals.{add-one, sub-one}
 use lib.Dec.{T, eqb, eqb-refl}
-use lib.ListN.{length, getD}
-use Rattle.lts.specs.Bounded.{_⇒_, anyBelow}
-use Rattle.lts.specs.System.{Rel, Lts, WellFormed, anyAction, anyState, allStates}
+use lib.ListN.{getD}
+use Rattle.lts.specs.Bounded.{_⇒_}
+use Rattle.lts.specs.System.{Rel, Lts, anyAction, anyState, allStates}
 use Rattle.lts.specs.Table.{isEntry, tableLts, Table, Rows}
 use Rattle.lts.specs.Game.{defenderLoses, challengerWins}
 use Rattle.lts.proofs.Bounded.{and-iff, imp-iff, any-iff, test-ext, below-suc}

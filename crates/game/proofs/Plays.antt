@@ -9,7 +9,7 @@ use native.Mathlib.Omega.{arith}
 use lib.Dec.{T, ltb, leb, ltb→lt}
 use borrow.Author.Tests.{le-leb, lt-leb}
 use Rattle.lts.specs.System.{Rel, Lts, WellFormed}
-use Rattle.lts.specs.Table.{Table, tableLts, withTerminating, markedSet}
+use Rattle.lts.specs.Table.{Table, tableLts, markedSet}
 use Rattle.lts.specs.Game.{challengerWins}
 use Rattle.lts.specs.Rounds.{round}
 use Rattle.lts.specs.declared.Refusal.{Refusal}
@@ -29,7 +29,6 @@ use Rattle.relation.specs.declared.Checked.{Checked}
 use Rattle.relation.specs.declared.Checked.the-variants.{Preorder, Refused as NoPreorder}
 use Rattle.relation.specs.Check.{checkPreorder}
 use Rattle.relation.specs.Matrix.{Matrix, relationOf}
-use Rattle.game.specs.declared.Played.{Played}
 use Rattle.game.specs.declared.Played.the-variants.{Won, NotWon, Refused}
 use Rattle.game.specs.Memo.{system, Playable}
 use Rattle.game.specs.Play.{unless, onPreorder, playReadable, playReading, handPlay}

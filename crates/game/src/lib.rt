@@ -1,6 +1,6 @@
 // The bounded game (document 01, "Hand play"): the challenger's and the defender's turns call each other, the rounds left falling.
 ghost use mathlib.Core.Path.{_≡_};
-ghost use Prim.Native.Nat.{ℕ, _<_, _≤_, _-_};
+ghost use Prim.Native.Nat.{_<_, _≤_, _-_};
 ghost use Rattle.lts.specs.Game.{challengerWins, defenderLoses};
 ghost use Rattle.encoding.specs.Checked.{ReadableAs};
 ghost use Rattle.encoding.specs.Denotation.{ltsOf};

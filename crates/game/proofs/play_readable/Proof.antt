@@ -1,5 +1,5 @@
 -- `game::play_readable` meets its contract: its tests are document 01's, in the order of the table.
-use mathlib.Core.Path.{_≡_, _∙_, sym}
+use mathlib.Core.Path.{_∙_, sym}
 use mathlib.Core.Bool.{true, false}
 use borrow.Author.Needs.{needs}
 use borrow.Author.Tests.{not-true, not-false}

@@ -1,10 +1,8 @@
 -- `game::wins_table` meets its contract: a blank table of known results is right.
-use Prim.Native.Nat.{ℕ}
 use mathlib.Core.Path.{sym}
-use mathlib.Core.Bool.{Bool, true}
+use mathlib.Core.Bool.{true}
 use native.Mathlib.Omega.{arith}
 use denote.Ref.{now}
-use borrow.Author.Needs.{needs}
 use Rattle.game.specs.Memo.{wins}
 use Rattle.game.proofs.Cells.{size-small, right-blank}
 use Rattle.game.proofs.wins_table.Statement.{statement}
