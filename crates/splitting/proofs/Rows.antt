@@ -5,14 +5,14 @@ use mathlib.Core.List.{List, _++_}
 use mathlib.Core.Logic.{⊎-elim}
 use Prim.Native.Nat.{ℕ, _+_, _-_, _*_, _≤_, _<_}
 use native.Mathlib.Omega.{arith}
-use lib.ListN.{length, getD, drop, List·getD-append}
+use lib.ListN.{length, getD, drop, List·getD-append, length-append, length-drop}
 use lib.Pow.{pow-pos}
 use lib.Seq.{getD-drop, getD-append-add}
 use borrow.Author.Tests.{le-ltb}
 use Rattle.lts.specs.System.{Set, Rel}
 use Rattle.relation.specs.Matrix.{inRow, wordAt, rowOf, rowWords, statesBelow, relationOf, matrixOf, Matrix, setRow, withoutStates, rowsOf}
 use Rattle.relation.proofs.Bits.{bit-of-zero}
-use Rattle.relation.proofs.Bounded.{lt-or-ge, length-listBelow, length-fill, getD-listBelow, list-ext}
+use Rattle.relation.proofs.Bounded.{lt-or-ge, length-listBelow, getD-listBelow, list-ext}
 use Rattle.relation.proofs.Rows.{word-at, wordAt-lt, bit-wordAt}
 use Rattle.relation.proofs.Matrices.{inRow-drop, states-in, states-out, matrixOf-cong, relation-of, set-here, set-other, without-row, done-more}
 
@@ -20,7 +20,7 @@ use Rattle.relation.proofs.Matrices.{inRow-drop, states-in, states-out, matrixO
 pub set-words : (k w : ℕ) (A S : Set) (d : List ℕ) → w ≤ k → length d ≡ k → ((j : ℕ) → getD d j 0 ≡ 0) → ((q : ℕ) → q < w * 64 → A q ≡ S q)
     → ((q : ℕ) → w * 64 ≤ q → S q ≡ false) → rowOf w A ++ drop w d ≡ rowOf k S
 set-words k w A S d room long zero same none =
-    list-ext k (wordAt S) (rowOf w A ++ drop w d) (length-fill w (wordAt A) d (omega arith) ∙ long) (λ c h.
+    list-ext k (wordAt S) (rowOf w A ++ drop w d) (omega (arith, length-append (rowOf w A) (drop w d), length-listBelow w (wordAt A), length-drop w d, long)) (λ c h.
     ⊎-elim
     (λ (l : c < w).
     List·getD-append (rowOf w A) (drop w d) 0 c (omega (arith, length-listBelow w (wordAt A))) ∙ getD-listBelow w (wordAt A) c l
