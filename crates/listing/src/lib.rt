@@ -24,6 +24,7 @@ pub fn put_head(out: &mut [u8], n: usize, steps: usize, pairs: usize, blocks: us
     requires { ⌜ (n < 100000) × (steps < 100000) × (pairs < 100000) × (blocks < 100000) × (64 ≤ length (now out)) ⌝ }
     ensures { λ r. ⌜ r ≡ length (headLine n steps pairs blocks) ⌝ }
     ensures { λ _. ⌜ now (out .exit) ≡ written 0 (headLine n steps pairs blocks) (now (out .entry)) ⌝ }
+    ensures { λ r. ⌜ r ≤ length (now (out .entry)) ⌝ }
 {
     let a = put_number(out, 0, b"pages ", n);
     let b = put_number(out, a, b" turns ", steps);
@@ -37,6 +38,7 @@ pub fn put_refused(out: &mut [u8], number: usize) -> usize
     requires { ⌜ (number < 100000) × (64 ≤ length (now out)) ⌝ }
     ensures { λ r. ⌜ r ≡ length (refusedLine number) ⌝ }
     ensures { λ _. ⌜ now (out .exit) ≡ written 0 (refusedLine number) (now (out .entry)) ⌝ }
+    ensures { λ r. ⌜ r ≤ length (now (out .entry)) ⌝ }
 {
     let a = put_number(out, 0, b"refused ", number);
     report::put_text(out, a, b"\n")
@@ -77,6 +79,7 @@ pub fn put_state(out: &mut [u8], grid: &[u64], n: usize, name: usize, p: usize) 
     requires { ⌜ (length (now grid) ≡ n * rowWords n) × (n ≤ 256) × (p < n) × (name < 100000) × (1040 ≤ length (now out)) ⌝ }
     ensures { λ r. ⌜ r ≡ length (stateLine n (relationOf n (now (grid .entry))) name p) ⌝ }
     ensures { λ _. ⌜ now (out .exit) ≡ written 0 (stateLine n (relationOf n (now (grid .entry))) name p) (now (out .entry)) ⌝ }
+    ensures { λ r. ⌜ r ≤ length (now (out .entry)) ⌝ }
 {
     let a = report::put_decimal(out, 0, p);
     let b = put_number(out, a, b" ", name);

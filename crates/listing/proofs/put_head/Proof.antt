@@ -52,7 +52,7 @@ returns c =
     let y = put-more x (record { place = d .ensures .0; bytes = d .ensures .1 .0 }) (omega (arith, start .pre, a .ensures .1 .1, b .ensures .1 .1)) in
     let z = put-more y (record { place = e .ensures .0; bytes = e .ensures .1 .0 }) (omega (arith, start .pre, a .ensures .1 .1, b .ensures .1 .1, d .ensures .1 .1)) in
     let w = put-more z (record { place = f .ensures .0; bytes = f .ensures .1 }) (omega (arith, start .pre, a .ensures .1 .1, b .ensures .1 .1, d .ensures .1 .1, e .ensures .1 .1)) in
-    (omega (arith, w .place), w .bytes)
+    (omega (arith, w .place), (w .bytes, omega arith))
 
 pub put-head-spec : {M : Type 1} → statement M
 put-head-spec =

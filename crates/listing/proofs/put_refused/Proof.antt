@@ -27,7 +27,7 @@ returns c =
     let f = c .before .before .before .before .before .before .before .put-number .ensures in
     let g = c .before .before .put-text .ensures in
     let w = put-more (record { place = f .0; bytes = f .1 .0 }) (record { place = g .0; bytes = g .1 }) (omega arith) in
-    (omega (arith, w .place), w .bytes)
+    (omega (arith, w .place), (w .bytes, omega arith))
 
 pub put-refused-spec : {M : Type 1} → statement M
 put-refused-spec =

@@ -43,7 +43,7 @@ returns c =
     let x = put-more (record { place = a .ensures .0; bytes = a .ensures .1 }) (record { place = b .ensures .0; bytes = b .ensures .1 .0 }) (omega (arith, start .pre, a .ensures .0)) in
     let y = put-more x (record { place = d .ensures .0; bytes = d .ensures .1 .0 }) (omega (arith, start .pre, a .ensures .0, b .ensures .1 .1)) in
     let w = put-more y (record { place = e .ensures .0; bytes = e .ensures .1 }) (omega (arith, start .pre, a .ensures .0, b .ensures .1 .1, d .ensures .1 .1)) in
-    (omega (arith, w .place), w .bytes)
+    (omega (arith, w .place), (w .bytes, omega arith))
 
 pub put-state-spec : {M : Type 1} → statement M
 put-state-spec =
