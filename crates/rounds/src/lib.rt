@@ -69,7 +69,7 @@ pub struct Refutation {
 }
 
 // The refutation of (p, q), from W0 in `current`.
-pub fn search_rounds(
+fn search_rounds(
     n: usize,
     m: usize,
     k: usize,
@@ -109,4 +109,58 @@ pub fn search_rounds(
         left = rest;
         j += 1;
     }
+}
+
+// The refutation of (p, q), with two matrices to work in.
+fn refute_in(
+    n: usize,
+    m: usize,
+    k: usize,
+    sources: &[u16; 1024],
+    actions: &[u8; 1024],
+    targets: &[u16; 1024],
+    start: &[u64],
+    current: &mut [u64],
+    next: &mut [u64],
+    p: usize,
+    q: usize,
+) -> Refutation
+    requires { ⌜ Table n m k (now sources) (now actions) (now targets) × Matrix n (now start) × (length (now start) ≡ length (now current)) × (length (now start) ≡ length (now next)) × (p < n) × (q < n) ⌝ }
+    ensures { λ r. ⌜ RefutationOf (tableLts n m k (now (sources .entry)) (now (actions .entry)) (now (targets .entry))) (relationOf n (now (start .entry))) p q r ⌝ }
+{
+    relation::copy_matrix(current, start);
+    search_rounds(n, m, k, sources, actions, targets, current, next, p, q)
+}
+
+// The round at which (p, q) falls, and the number of entries of its strategy.
+pub fn refute(
+    n: usize,
+    m: usize,
+    k: usize,
+    sources: &[u16; 1024],
+    actions: &[u8; 1024],
+    targets: &[u16; 1024],
+    start: &[u64],
+    p: usize,
+    q: usize,
+) -> Refutation
+    requires { ⌜ Table n m k (now sources) (now actions) (now targets) × Matrix n (now start) × (p < n) × (q < n) ⌝ }
+    ensures { λ r. ⌜ RefutationOf (tableLts n m k (now (sources .entry)) (now (actions .entry)) (now (targets .entry))) (relationOf n (now (start .entry))) p q r ⌝ }
+{
+    let size = start.len();
+    let mut current = [0u64; 1024];
+    let mut next = [0u64; 1024];
+    refute_in(
+        n,
+        m,
+        k,
+        sources,
+        actions,
+        targets,
+        start,
+        &mut current[..size],
+        &mut next[..size],
+        p,
+        q,
+    )
 }
