@@ -1,0 +1,17 @@
+pub mod Bounded
+pub mod Reader
+pub mod Chains
+pub mod Denotation
+pub mod Order
+pub mod Codes
+pub mod Writes
+pub mod Filling
+pub mod Counting
+pub mod Table
+pub mod Bytes
+pub mod Outcomes
+pub mod NormalReads
+pub mod NormalChains
+pub mod NormalSame
+pub mod Laws
+pub mod Cases

@@ -1,0 +1,87 @@
+-- The rules that make an encoding readable, and what reading it answers (document 01, "The sheet" and the table of refusals).
+use Prim.Native.Nat.{ℕ, zero, suc, _+_, _*_}
+use mathlib.Core.Bool.{Bool, true, false, not, _&&_, _||_}
+use mathlib.Core.List.{List, [], _∷_, map}
+use lib.ListN.{length}
+use lib.Dec.{ltb, leb, eqb}
+use Rattle.lts.specs.Bounded.{allBelow, concatBelow}
+use Rattle.lts.specs.declared.Refusal.{Refusal}
+use Rattle.lts.specs.declared.Refusal.the-variants.{Length, Range, StateRecord as BadState, TransitionRecord as BadTransition, Chain, Repeated}
+use Rattle.encoding.specs.declared.Header.{Header}
+use Rattle.encoding.specs.declared.StateRecord.{StateRecord}
+use Rattle.encoding.specs.declared.TransitionRecord.{TransitionRecord}
+use Rattle.encoding.specs.declared.Reading.{Reading}
+use Rattle.encoding.specs.declared.Reading.the-variants.{Readable, Refused}
+use Rattle.encoding.specs.Records.{headerOf, encodingLength, stateRecord, transitionRecord}
+
+-- rule 2: n from 1 to 256, m to 64, k to 1,024
+unfoldable pub inRange : Header → Bool
+inRange h = leb 1 (h .states) && leb (h .states) 256 && leb (h .actions) 64 && leb (h .transitions) 1024
+
+-- rule 3: the end mark is 0 or 1, the spare byte 0, the first index at most k
+unfoldable pub stateFits : Header → StateRecord → Bool
+stateFits h r = leb (r .mark) 1 && eqb (r .spare) 0 && leb (r .first) (h .transitions)
+
+unfoldable pub statesFit : List ℕ → Header → Bool
+statesFit s h = allBelow (h .states) (λ p. stateFits h (stateRecord s h p))
+
+-- rule 4: the action is 1 to m, the spare byte 0, the target below n, the next index at most k
+unfoldable pub transitionFits : Header → TransitionRecord → Bool
+transitionFits h r =
+    leb 1 (r .action) && leb (r .action) (h .actions) && eqb (r .spare) 0 && ltb (r .target) (h .states) && leb (r .next) (h .transitions)
+
+unfoldable pub transitionsFit : List ℕ → Header → Bool
+transitionsFit s h = allBelow (h .transitions) (λ i. transitionFits h (transitionRecord s h (i + 1)))
+
+-- the numbers of the records from j on, by their next indices, at most `fuel` of them; 0 ends the chain
+unfoldable pub walk : List ℕ → Header → ℕ → ℕ → List ℕ
+walk s h zero j = []
+walk s h (suc fuel) zero = []
+walk s h (suc fuel) (suc j) = suc j ∷ walk s h fuel (transitionRecord s h (suc j) .next)
+
+-- the chain of state p. One that has not ended after all k records goes on for one more, which it then holds twice.
+unfoldable pub chain : List ℕ → Header → ℕ → List ℕ
+chain s h p = walk s h (suc (h .transitions)) (stateRecord s h p .first)
+
+-- the records of the chains of the states below n, one after the other
+unfoldable pub reached : List ℕ → Header → ℕ → List ℕ
+reached s h n = concatBelow n (chain s h)
+
+unfoldable pub member : ℕ → List ℕ → Bool
+member x [] = false
+member x (y ∷ l) = eqb x y || member x l
+
+-- whether no number stands twice in the list
+unfoldable pub distinct : List ℕ → Bool
+distinct [] = true
+distinct (x ∷ l) = not (member x l) && distinct l
+
+-- rule 5: no record is reached twice, and none is on no chain
+unfoldable pub chainsFit : List ℕ → Header → Bool
+chainsFit s h = distinct (reached s h (h .states)) && allBelow (h .transitions) (λ i. member (i + 1) (reached s h (h .states)))
+
+-- action and target of record j as one number (targets are below 256)
+unfoldable pub successor : List ℕ → Header → ℕ → ℕ
+successor s h j = 256 * transitionRecord s h j .action + transitionRecord s h j .target
+
+-- rule 6: no chain holds the same action and target twice
+unfoldable pub successorsFit : List ℕ → Header → Bool
+successorsFit s h = allBelow (h .states) (λ p. distinct (map (successor s h) (chain s h p)))
+
+-- the answer a where a rule holds, and otherwise the refusal
+unfoldable pub unless : Bool → Refusal → Reading → Reading
+unless true r a = a
+unless false r a = Refused r
+
+-- What reading an encoding answers: the first rule that is broken, down the table, or the header.
+unfoldable pub readEncoding : List ℕ → Reading
+readEncoding s =
+    let h = headerOf s in
+    unless (leb 6 (length s)) Length
+    (unless (inRange h) Range
+    (unless (eqb (length s) (encodingLength h)) Length
+    (unless (statesFit s h) BadState
+    (unless (transitionsFit s h) BadTransition
+    (unless (chainsFit s h) Chain
+    (unless (successorsFit s h) Repeated
+    (Readable h)))))))

@@ -1,0 +1,642 @@
+// Encodings of labelled transition systems (document 01, "The sheet"): the reader, the loader that fills a transition table, and the
+// normaliser.
+ghost use Prim.Native.Nat.{_+_, _*_, _-_, _<_, _≤_};
+ghost use mathlib.Core.Path.{_≡_};
+ghost use mathlib.Core.Bool.{true, cond};
+ghost use mathlib.Core.List.{map};
+ghost use lib.Dec.{eqb, ltb};
+ghost use lib.ListN.{length, getD};
+ghost use lib.Seq.{sets};
+ghost use Rattle.lts.specs.Bounded.{allBelow, passing};
+ghost use Rattle.encoding.specs.Records.{numberAt, two, headerOf, headerBytes, stateRecordAt, stateBytes};
+ghost use Rattle.encoding.specs.Records.{transitionRecordAt, transitionBytes, stateAt, transitionAt, encodingLength};
+ghost use Rattle.encoding.specs.Records.{stateRecord, transitionRecord};
+ghost use Rattle.encoding.specs.Encoding.{inRange, stateFits, transitionFits, statesFit, transitionsFit};
+ghost use Rattle.encoding.specs.Encoding.{chain, reached, successor, chainsFit, successorsFit, readEncoding};
+ghost use Rattle.encoding.specs.Denotation.{ltsOf};
+ghost use Rattle.encoding.specs.Normal.{transitionsTo, transitionsOf, firstIndex, transitionsBytes, normal};
+ghost use Rattle.encoding.specs.Normalise.{normalised};
+ghost use Rattle.encoding.specs.Checked.{Bounds, Sized, Recorded, FirstKnown, TransitionKnown, ReadableAs};
+ghost use Rattle.encoding.specs.Marks.{fresh, marked, Stamps, stamped};
+ghost use Rattle.encoding.specs.Loaded.{tableTransitions, tableStates, Buffers, Loaded, Wrote};
+
+pub struct Header {
+    pub states: usize,
+    pub actions: usize,
+    pub transitions: usize,
+}
+
+pub struct StateRecord {
+    // The end mark.
+    pub mark: u8,
+    pub spare: u8,
+    pub first: usize,
+}
+
+pub struct TransitionRecord {
+    pub action: u8,
+    pub spare: u8,
+    pub target: usize,
+    pub next: usize,
+}
+
+pub enum Reading {
+    Readable(Header),
+    Refused(lts::Refusal),
+}
+
+pub enum Normalised {
+    Written,
+    Refused(lts::Refusal),
+}
+
+// The 16-bit number at `at`, low byte first.
+fn number_at(s: &[u8], at: usize) -> usize
+    requires { ⌜ at + 1 < length (now s) ⌝ }
+    ensures { λ r. ⌜ r ≡ numberAt (now (s .entry)) at ⌝ }
+{
+    let low = s[at] as usize;
+    let high = s[at + 1] as usize;
+    low + 256 * high
+}
+
+// Writes a 16-bit number, low byte first.
+fn put_two(out: &mut [u8], at: usize, x: usize)
+    requires { ⌜ at + 1 < length (now out) ⌝ }
+    ensures { λ r. ⌜ now (out .exit) ≡ sets (now (out .entry)) at (two x) ⌝ }
+{
+    out[at] = (x % 256) as u8;
+    out[at + 1] = (x / 256 % 256) as u8;
+}
+
+impl Header {
+    pub const BYTES: usize = 6;
+
+    fn new(states: usize, actions: usize, transitions: usize) -> Header
+        ensures { λ r. ⌜ r ≡ record { states = states; actions = actions; transitions = transitions } ⌝ }
+    {
+        Header {
+            states: states,
+            actions: actions,
+            transitions: transitions,
+        }
+    }
+
+    fn read(s: &[u8]) -> Header
+        requires { ⌜ 6 ≤ length (now s) ⌝ }
+        ensures { λ r. ⌜ r ≡ headerOf (now (s .entry)) ⌝ }
+    {
+        Header::new(number_at(s, 0), number_at(s, 2), number_at(s, 4))
+    }
+
+    fn put(self, out: &mut [u8])
+        requires { ⌜ 6 ≤ length (now out) ⌝ }
+        ensures { λ r. ⌜ now (out .exit) ≡ sets (now (out .entry)) 0 (headerBytes self) ⌝ }
+    {
+        put_two(out, 0, self.states);
+        put_two(out, 2, self.actions);
+        put_two(out, 4, self.transitions);
+    }
+
+    // Whether each count is in its range.
+    fn in_range(self) -> bool
+        ensures { λ r. ⌜ r ≡ inRange self ⌝ }
+    {
+        (1 <= self.states)
+            & (self.states <= 256)
+            & (self.actions <= 64)
+            & (self.transitions <= 1024)
+    }
+
+    // Where the record of state p starts.
+    fn state_at(self, p: usize) -> usize
+        requires { ⌜ (Bounds self) × (p ≤ self .states) ⌝ }
+        ensures { λ r. ⌜ r ≡ stateAt self p ⌝ }
+    {
+        Header::BYTES + StateRecord::BYTES * p
+    }
+
+    // Where transition record j, from 1, starts.
+    fn transition_at(self, j: usize) -> usize
+        requires { ⌜ (Bounds self) × (1 ≤ j) × (j ≤ self .transitions + 1) ⌝ }
+        ensures { λ r. ⌜ r ≡ transitionAt self j ⌝ }
+    {
+        let base = self.state_at(self.states);
+        base + TransitionRecord::BYTES * (j - 1)
+    }
+
+    // The length of the whole encoding.
+    fn length(self) -> usize
+        requires { ⌜ Bounds self ⌝ }
+        ensures { λ r. ⌜ r ≡ encodingLength self ⌝ }
+    {
+        self.transition_at(self.transitions + 1)
+    }
+}
+
+impl StateRecord {
+    pub const BYTES: usize = 4;
+
+    fn new(mark: u8, spare: u8, first: usize) -> StateRecord
+        ensures { λ r. ⌜ r ≡ record { mark = mark; spare = spare; first = first } ⌝ }
+    {
+        StateRecord {
+            mark: mark,
+            spare: spare,
+            first: first,
+        }
+    }
+
+    fn read(s: &[u8], at: usize) -> StateRecord
+        requires { ⌜ at + 3 < length (now s) ⌝ }
+        ensures { λ r. ⌜ r ≡ stateRecordAt (now (s .entry)) at ⌝ }
+    {
+        StateRecord::new(s[at], s[at + 1], number_at(s, at + 2))
+    }
+
+    fn put(self, out: &mut [u8], at: usize)
+        requires { ⌜ at + 3 < length (now out) ⌝ }
+        ensures { λ r. ⌜ now (out .exit) ≡ sets (now (out .entry)) at (stateBytes self) ⌝ }
+    {
+        out[at] = self.mark;
+        out[at + 1] = self.spare;
+        put_two(out, at + 2, self.first);
+    }
+
+    fn fits(self, h: Header) -> bool
+        ensures { λ r. ⌜ r ≡ stateFits h self ⌝ }
+    {
+        (self.mark <= 1) & (self.spare == 0) & (self.first <= h.transitions)
+    }
+}
+
+impl TransitionRecord {
+    pub const BYTES: usize = 6;
+
+    fn new(action: u8, spare: u8, target: usize, next: usize) -> TransitionRecord
+        ensures { λ r. ⌜ r ≡ record { action = action; spare = spare; target = target; next = next } ⌝ }
+    {
+        TransitionRecord {
+            action: action,
+            spare: spare,
+            target: target,
+            next: next,
+        }
+    }
+
+    fn read(s: &[u8], at: usize) -> TransitionRecord
+        requires { ⌜ at + 5 < length (now s) ⌝ }
+        ensures { λ r. ⌜ r ≡ transitionRecordAt (now (s .entry)) at ⌝ }
+    {
+        TransitionRecord::new(s[at], s[at + 1], number_at(s, at + 2), number_at(s, at + 4))
+    }
+
+    fn put(self, out: &mut [u8], at: usize)
+        requires { ⌜ at + 5 < length (now out) ⌝ }
+        ensures { λ r. ⌜ now (out .exit) ≡ sets (now (out .entry)) at (transitionBytes self) ⌝ }
+    {
+        out[at] = self.action;
+        out[at + 1] = self.spare;
+        put_two(out, at + 2, self.target);
+        put_two(out, at + 4, self.next);
+    }
+
+    fn fits(self, h: Header) -> bool
+        ensures { λ r. ⌜ r ≡ transitionFits h self ⌝ }
+    {
+        let a = self.action as usize;
+        (1 <= a)
+            & (a <= h.actions)
+            & (self.spare == 0)
+            & (self.target < h.states)
+            & (self.next <= h.transitions)
+    }
+}
+
+// The record of state p.
+fn state_record(s: &[u8], h: Header, p: usize) -> StateRecord
+    requires { ⌜ (Sized (now s) h) × (p < h .states) ⌝ }
+    ensures { λ r. ⌜ r ≡ stateRecord (now (s .entry)) h p ⌝ }
+{
+    StateRecord::read(s, h.state_at(p))
+}
+
+// Transition record j, from 1.
+fn transition_record(s: &[u8], h: Header, j: usize) -> TransitionRecord
+    requires { ⌜ (Sized (now s) h) × (1 ≤ j) × (j ≤ h .transitions) ⌝ }
+    ensures { λ r. ⌜ r ≡ transitionRecord (now (s .entry)) h j ⌝ }
+{
+    TransitionRecord::read(s, h.transition_at(j))
+}
+
+// Rule 3, of state p.
+fn state_fits(s: &[u8], h: Header, p: usize) -> bool
+    requires { ⌜ (Sized (now s) h) × (p < h .states) ⌝ }
+    ensures { λ r. ⌜ r ≡ stateFits h (stateRecord (now (s .entry)) h p) ⌝ }
+{
+    state_record(s, h, p).fits(h)
+}
+
+// Rule 4, of record j.
+fn transition_fits(s: &[u8], h: Header, j: usize) -> bool
+    requires { ⌜ (Sized (now s) h) × (1 ≤ j) × (j ≤ h .transitions) ⌝ }
+    ensures { λ r. ⌜ r ≡ transitionFits h (transitionRecord (now (s .entry)) h j) ⌝ }
+{
+    transition_record(s, h, j).fits(h)
+}
+
+// Rule 3, over all state records.
+fn states_fit(s: &[u8], h: Header) -> bool
+    requires { ⌜ Sized (now s) h ⌝ }
+    ensures { λ r. ⌜ r ≡ statesFit (now (s .entry)) h ⌝ }
+{
+    let n = h.states;
+    let mut p = 0;
+    while p < n {
+        if !state_fits(s, h, p) {
+            return false;
+        }
+        p += 1;
+    }
+    true
+}
+
+// Rule 4, over all transition records.
+fn transitions_fit(s: &[u8], h: Header) -> bool
+    requires { ⌜ Sized (now s) h ⌝ }
+    ensures { λ r. ⌜ r ≡ transitionsFit (now (s .entry)) h ⌝ }
+{
+    let k = h.transitions;
+    let mut i = 0;
+    while i < k {
+        if !transition_fits(s, h, i + 1) {
+            return false;
+        }
+        i += 1;
+    }
+    true
+}
+
+// State p's first index, after rule 3.
+fn first_of(s: &[u8], h: Header, p: usize) -> usize
+    requires { ⌜ (Recorded (now s) h) × (p < h .states) ⌝ }
+    ensures { λ r. ⌜ FirstKnown (now (s .entry)) h p r ⌝ }
+{
+    state_record(s, h, p).first
+}
+
+// Transition record j, after rule 4.
+fn known_transition(s: &[u8], h: Header, j: usize) -> TransitionRecord
+    requires { ⌜ (Recorded (now s) h) × (1 ≤ j) × (j ≤ h .transitions) ⌝ }
+    ensures { λ r. ⌜ TransitionKnown (now (s .entry)) h j r ⌝ }
+{
+    transition_record(s, h, j)
+}
+
+// Marks the records of state p's chain; false where one is marked already. The chain is followed for at most one record
+// more than there are.
+fn mark_chain(s: &[u8], h: Header, p: usize, seen: &mut [u8; 1025]) -> bool
+    requires { ⌜ (Recorded (now s) h) × (p < h .states) ⌝ }
+    ensures { λ r. ⌜ r ≡ fresh 1 (now (seen .entry)) (chain (now (s .entry)) h p) ⌝ }
+    ensures { λ r. ⌜ (r ≡ true → now (seen .exit) ≡ marked 1 (now (seen .entry)) (chain (now (s .entry)) h p)) ⌝ }
+{
+    let mut j = first_of(s, h, p);
+    let mut left = h.transitions + 1;
+    while left > 0 {
+        if j == 0 {
+            return true;
+        }
+        if seen[j] == 1 {
+            return false;
+        }
+        seen[j] = 1;
+        j = known_transition(s, h, j).next;
+        left -= 1;
+    }
+    true
+}
+
+// Marks the records of all chains; false where one is reached twice.
+fn mark_chains(s: &[u8], h: Header, seen: &mut [u8; 1025]) -> bool
+    requires { ⌜ Recorded (now s) h ⌝ }
+    ensures { λ r. ⌜ r ≡ fresh 1 (now (seen .entry)) (reached (now (s .entry)) h (h .states)) ⌝ }
+    ensures { λ r. ⌜ (r ≡ true → now (seen .exit) ≡ marked 1 (now (seen .entry)) (reached (now (s .entry)) h (h .states))) ⌝ }
+{
+    let n = h.states;
+    let mut p = 0;
+    while p < n {
+        if !mark_chain(s, h, p, seen) {
+            return false;
+        }
+        p += 1;
+    }
+    true
+}
+
+// Whether each of the records 1 to k is marked.
+fn all_marked(k: usize, seen: &[u8; 1025]) -> bool
+    requires { ⌜ k ≤ 1024 ⌝ }
+    ensures { λ r. ⌜ r ≡ allBelow k (λ i. eqb (getD (now (seen .entry)) (i + 1) 0) 1) ⌝ }
+{
+    let mut i = 0;
+    while i < k {
+        if seen[i + 1] != 1 {
+            return false;
+        }
+        i += 1;
+    }
+    true
+}
+
+// Rule 5.
+fn chains_fit(s: &[u8], h: Header) -> bool
+    requires { ⌜ Recorded (now s) h ⌝ }
+    ensures { λ r. ⌜ r ≡ chainsFit (now (s .entry)) h ⌝ }
+{
+    let mut seen = [0u8; 1025];
+    if !mark_chains(s, h, &mut seen) {
+        return false;
+    }
+    let k = h.transitions;
+    all_marked(k, &seen)
+}
+
+// Stamps the actions and targets of state p's chain with p + 1; false where one is stamped so already.
+fn stamp_chain(s: &[u8], h: Header, p: usize, stamps: &mut [u16; 16640]) -> bool
+    requires { ⌜ (Recorded (now s) h) × (p < h .states) ⌝ }
+    ensures { λ r. ⌜ r ≡ fresh (p + 1) (now (stamps .entry)) (map (successor (now (s .entry)) h) (chain (now (s .entry)) h p)) ⌝ }
+    ensures { λ r. ⌜ (r ≡ true → now (stamps .exit) ≡ marked (p + 1) (now (stamps .entry)) (map (successor (now (s .entry)) h) (chain (now (s .entry)) h p))) ⌝ }
+{
+    let stamp = (p + 1) as u16;
+    let mut j = first_of(s, h, p);
+    let mut left = h.transitions + 1;
+    while left > 0 {
+        if j == 0 {
+            return true;
+        }
+        let r = known_transition(s, h, j);
+        let at = 256 * (r.action as usize) + r.target;
+        if stamps[at] == stamp {
+            return false;
+        }
+        stamps[at] = stamp;
+        j = r.next;
+        left -= 1;
+    }
+    true
+}
+
+// Rule 6.
+fn successors_fit(s: &[u8], h: Header) -> bool
+    requires { ⌜ Recorded (now s) h ⌝ }
+    ensures { λ r. ⌜ r ≡ successorsFit (now (s .entry)) h ⌝ }
+{
+    let mut stamps = [0u16; 16640];
+    let n = h.states;
+    let mut p = 0;
+    while p < n {
+        if !stamp_chain(s, h, p, &mut stamps) {
+            return false;
+        }
+        p += 1;
+    }
+    true
+}
+
+// Reads an encoding: its header, or the first rule that it breaks.
+pub fn read_encoding(s: &[u8]) -> Reading
+    ensures { λ r. ⌜ r ≡ readEncoding (now (s .entry)) ⌝ }
+{
+    if s.len() < Header::BYTES {
+        return Reading::Refused(lts::Refusal::Length);
+    }
+    let h = Header::read(s);
+    if !h.in_range() {
+        return Reading::Refused(lts::Refusal::Range);
+    }
+    if s.len() != h.length() {
+        return Reading::Refused(lts::Refusal::Length);
+    }
+    if !states_fit(s, h) {
+        return Reading::Refused(lts::Refusal::StateRecord);
+    }
+    if !transitions_fit(s, h) {
+        return Reading::Refused(lts::Refusal::TransitionRecord);
+    }
+    if !chains_fit(s, h) {
+        return Reading::Refused(lts::Refusal::Chain);
+    }
+    if !successors_fit(s, h) {
+        return Reading::Refused(lts::Refusal::Repeated);
+    }
+    Reading::Readable(h)
+}
+
+// Writes the transitions of state p by action a, which the stamps hold, from `from` on; the place after them.
+fn load_action(
+    p: usize,
+    a: usize,
+    n: usize,
+    stamps: &[u16; 16640],
+    from: usize,
+    sources: &mut [u16; 1024],
+    actions: &mut [u8; 1024],
+    targets: &mut [u16; 1024],
+) -> usize
+    requires { ⌜ (p < 256) × (a ≤ 64) × (n ≤ 256) ⌝ }
+    requires { ⌜ from + length (passing n (stamped (p + 1) (now stamps) a)) ≤ 1024 ⌝ }
+    ensures { λ r. ⌜ r ≡ from + length (passing n (stamped (p + 1) (now (stamps .entry)) a)) ⌝ }
+    ensures { λ r. ⌜ Wrote (transitionsTo p a (passing n (stamped (p + 1) (now (stamps .entry)) a))) from (now (sources .entry)) (now (actions .entry)) (now (targets .entry)) (now (sources .exit)) (now (actions .exit)) (now (targets .exit)) ⌝ }
+{
+    let stamp = (p + 1) as u16;
+    let mut at = from;
+    let mut t = 0;
+    while t < n {
+        if stamps[256 * a + t] == stamp {
+            sources[at] = p as u16;
+            actions[at] = a as u8;
+            targets[at] = t as u16;
+            at += 1;
+            t += 1;
+        } else {
+            t += 1;
+        }
+    }
+    at
+}
+
+// Writes the transitions of state p in normal order, from `from` on; the place after them.
+fn load_state(
+    s: &[u8],
+    h: Header,
+    p: usize,
+    stamps: &mut [u16; 16640],
+    from: usize,
+    sources: &mut [u16; 1024],
+    actions: &mut [u8; 1024],
+    targets: &mut [u16; 1024],
+) -> usize
+    requires { ⌜ (ReadableAs (now s) h) × (p < h .states) × (Stamps (now stamps) p) ⌝ }
+    requires { ⌜ from + length (transitionsOf (ltsOf (now s)) p) ≤ 1024 ⌝ }
+    ensures { λ r. ⌜ r ≡ from + length (transitionsOf (ltsOf (now (s .entry))) p) ⌝ }
+    ensures { λ r. ⌜ Wrote (transitionsOf (ltsOf (now (s .entry))) p) from (now (sources .entry)) (now (actions .entry)) (now (targets .entry)) (now (sources .exit)) (now (actions .exit)) (now (targets .exit)) ⌝ }
+    ensures { λ r. ⌜ Stamps (now (stamps .exit)) (p + 1) ⌝ }
+{
+    stamp_chain(s, h, p, stamps);
+    let n = h.states;
+    let m = h.actions;
+    let mut at = from;
+    let mut a = 0;
+    while a < m {
+        at = load_action(p, a + 1, n, stamps, at, sources, actions, targets);
+        a += 1;
+    }
+    at
+}
+
+// Fills the transition table of a readable encoding: the end marks, the row offsets, and the transitions in normal order. What it
+// requires follows from the reader's answer (`readable-of`) and of fresh arrays (`fresh-buffers`).
+pub fn load(
+    s: &[u8],
+    h: Header,
+    marks: &mut [u8; 256],
+    offsets: &mut [u16; 257],
+    sources: &mut [u16; 1024],
+    actions: &mut [u8; 1024],
+    targets: &mut [u16; 1024],
+)
+    requires { ⌜ (ReadableAs (now s) h) × (Buffers (now marks) (now offsets) (now sources) (now actions) (now targets)) ⌝ }
+    ensures { λ r. ⌜ Loaded (now (s .entry)) h (now (marks .exit)) (now (offsets .exit)) (now (sources .exit)) (now (actions .exit)) (now (targets .exit)) ⌝ }
+{
+    let mut stamps = [0u16; 16640];
+    let n = h.states;
+    let mut at = 0;
+    let mut p = 0;
+    offsets[0] = 0;
+    while p < n {
+        marks[p] = state_record(s, h, p).mark;
+        at = load_state(s, h, p, &mut stamps, at, sources, actions, targets);
+        p += 1;
+        offsets[p] = at as u16;
+    }
+}
+
+// A 16-bit number as an index.
+fn wide(x: u16) -> usize
+    ensures { λ r. ⌜ (r ≡ x) × (r < 65536) ⌝ }
+{
+    x as usize
+}
+
+// The first index of a state whose transitions stand after the first i and up to the first j.
+fn first_index(i: usize, j: usize) -> usize
+    requires { ⌜ i < 65536 ⌝ }
+    ensures { λ r. ⌜ r ≡ firstIndex i j ⌝ }
+{
+    if i == j {
+        return 0;
+    }
+    i + 1
+}
+
+// The next index of transition i, from 0, of k.
+fn next_index(sources: &[u16; 1024], i: usize, k: usize) -> usize
+    requires { ⌜ (i < k) × (k ≤ 1024) ⌝ }
+    ensures { λ r. ⌜ r ≡ cond (ltb (i + 1) k) (cond (eqb (getD (now (sources .entry)) (i + 1) 0) (getD (now (sources .entry)) i 0)) (i + 2) 0) 0 ⌝ }
+{
+    if i + 1 < k {
+        if sources[i + 1] == sources[i] {
+            return i + 2;
+        }
+        return 0;
+    }
+    0
+}
+
+// The record of state p, from the marks and the row offsets.
+fn table_state(marks: &[u8; 256], offsets: &[u16; 257], p: usize) -> StateRecord
+    requires { ⌜ p < 256 ⌝ }
+    ensures { λ r. ⌜ r ≡ record { mark = getD (now (marks .entry)) p 0; spare = 0; first = firstIndex (getD (now (offsets .entry)) p 0) (getD (now (offsets .entry)) (p + 1) 0) } ⌝ }
+{
+    let i = wide(offsets[p]);
+    let j = wide(offsets[p + 1]);
+    StateRecord::new(marks[p], 0, first_index(i, j))
+}
+
+// Writes the state records.
+fn write_states(out: &mut [u8], h: Header, marks: &[u8; 256], offsets: &[u16; 257])
+    requires { ⌜ (Bounds h) × (encodingLength h ≤ length (now out)) ⌝ }
+    ensures { λ r. ⌜ now (out .exit) ≡ sets (now (out .entry)) (stateAt h 0) (tableStates (now (marks .entry)) (now (offsets .entry)) (h .states)) ⌝ }
+{
+    let n = h.states;
+    let mut p = 0;
+    while p < n {
+        let r = table_state(marks, offsets, p);
+        r.put(out, h.state_at(p));
+        p += 1;
+    }
+}
+
+// Writes the transition records.
+fn write_transitions(
+    out: &mut [u8],
+    h: Header,
+    sources: &[u16; 1024],
+    actions: &[u8; 1024],
+    targets: &[u16; 1024],
+)
+    requires { ⌜ (Bounds h) × (encodingLength h ≤ length (now out)) ⌝ }
+    ensures { λ r. ⌜ now (out .exit) ≡ sets (now (out .entry)) (transitionAt h 1) (transitionsBytes 1 (tableTransitions (now (sources .entry)) (now (actions .entry)) (now (targets .entry)) 0 (h .transitions))) ⌝ }
+{
+    let k = h.transitions;
+    let mut i = 0;
+    while i < k {
+        let next = next_index(sources, i, k);
+        let r = TransitionRecord::new(actions[i], 0, wide(targets[i]), next);
+        r.put(out, h.transition_at(i + 1));
+        i += 1;
+    }
+}
+
+// Writes the normal form of a readable encoding into a buffer of its length.
+fn write_normal(s: &[u8], h: Header, out: &mut [u8])
+    requires { ⌜ (ReadableAs (now s) h) × (length (now out) ≡ length (now s)) ⌝ }
+    ensures { λ r. ⌜ now (out .exit) ≡ normal (ltsOf (now (s .entry))) ⌝ }
+{
+    let mut marks = [0u8; 256];
+    let mut offsets = [0u16; 257];
+    let mut sources = [0u16; 1024];
+    let mut actions = [0u8; 1024];
+    let mut targets = [0u16; 1024];
+    load(
+        s,
+        h,
+        &mut marks,
+        &mut offsets,
+        &mut sources,
+        &mut actions,
+        &mut targets,
+    );
+    h.put(out);
+    write_states(out, h, &marks, &offsets);
+    write_transitions(out, h, &sources, &actions, &targets);
+}
+
+// Writes an encoding's normal form. An encoding that is refused, and a buffer of another length than the encoding's own, leave the
+// buffer as it is.
+pub fn normalise(s: &[u8], out: &mut [u8]) -> Normalised
+    ensures { λ r. ⌜ r ≡ normalised (now (s .entry)) (now (out .entry)) .answer ⌝ }
+    ensures { λ r. ⌜ now (out .exit) ≡ normalised (now (s .entry)) (now (out .entry)) .bytes ⌝ }
+{
+    let answer = read_encoding(s);
+    match answer {
+        Reading::Refused(r) => Normalised::Refused(r),
+        Reading::Readable(h) => {
+            if out.len() != s.len() {
+                return Normalised::Refused(lts::Refusal::Buffer);
+            }
+            write_normal(s, h, out);
+            Normalised::Written
+        }
+    }
+}
