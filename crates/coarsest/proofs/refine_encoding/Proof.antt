@@ -1,0 +1,51 @@
+use mathlib.Core.Path.{ap, _∙_}
+use denote.Ref.{now}
+use Rattle.coarsest.specs.declared.Counts.{Counts}
+use Rattle.coarsest.specs.declared.Answer.{Answer}
+use Rattle.coarsest.specs.declared.Answer.the-variants.{Done}
+use Rattle.coarsest.proofs.Laws.{start-of, refined-answer, refined-grid, refined-names}
+use borrow.Author.Needs.{needs}
+use Rattle.coarsest.proofs.refine_encoding.Statement.{statement}
+use Rattle.coarsest.proofs.refine_encoding.Tie as tie
+use Rattle.coarsest.proofs.refine_encoding.Reads as reads
+use Rattle.coarsest.proofs.refine_encoding.Lts as lts
+use Rattle.coarsest.proofs.refine_table.Reads as refine-table-reads
+use Rattle.encoding.proofs.load.Reads as load-reads
+
+-- src/lib.rt:165:5
+load-requires : tie.Need-load-requires
+load-requires c κs = search needs
+
+-- src/lib.rt:177:5
+refine-table-requires : tie.Need-refine-table-requires
+refine-table-requires c κs =
+    let start = c .before .before .before .before .before .before .before .before .before .before .before .before .before .before .before .before in
+    let a = start .args in
+    let loaded = c .before .before .before .before .before .load .ensures in
+    (loaded .table, start-of (a .h .states) (now (a .start)) (start .pre .0 .1), start .pre .1 .1, start .pre .1 .0)
+
+-- src/lib.rt:146:1
+same-length : tie.Need-same-length
+same-length c = search needs
+
+-- src/lib.rt:146:1
+same-length-2 : tie.Need-same-length-2
+same-length-2 c = search needs
+
+-- src/lib.rt:146:1
+returns : tie.Need-returns
+returns c =
+    let start = c .before .before .before .before .before .before .before .before .before .before .before .before .before .before .before .before .before .before .before .before .before in
+    let a = start .args in
+    let loaded = c .before .before .before .before .before .before .before .before .before .before .load .ensures in
+    let got = c .before .before .before .before .refine-table .ensures in (
+      ap Done (got .0) ∙ refined-answer (now (a .s)) (a .h .states) (now (a .start)) (now (a .schedule)) _ _ (loaded .same),
+      (
+        got .1 .0 ∙ refined-grid (now (a .s)) (a .h .states) (now (a .start)) (now (a .schedule)) _ _ (loaded .same),
+        got .1 .1 ∙ refined-names (now (a .s)) (a .h .states) (now (a .start)) (now (a .schedule)) _ _ (loaded .same),
+      ),
+    )
+
+pub refine-encoding-spec : {M : Type 1} → statement M
+refine-encoding-spec =
+    tie.close (tie.spec load-requires refine-table-requires same-length same-length-2 returns)
