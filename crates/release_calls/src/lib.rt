@@ -5,13 +5,13 @@ ghost use lib.ListN.{length};
 ghost use Rattle.encoding.specs.Normalise.{normalised};
 ghost use Rattle.simulation.specs.Calls.{simulationCall};
 ghost use Rattle.game.specs.Play.{handPlay};
-ghost use Rattle.release_calls.specs.Bytes.{wordsOf, LoadedGrid};
+ghost use Rattle.release_calls.specs.Bytes.{wordsOf, LoadedFrom};
 ghost use Rattle.release_calls.specs.Calls.{normalisedNumber, testedNumber, playedNumber, endStart};
 
 // Reads the words of a grid from its bytes, into the front of words. Their number is 0 where the bytes are no grid's.
 pub fn load_grid(bytes: &[u8], words: &mut [u64; 1024]) -> usize
     requires { ⌜ length (now words) ≡ 1024 ⌝ }
-    ensures { λ r. ⌜ LoadedGrid (now (bytes .entry)) r (now (words .exit)) ⌝ }
+    ensures { λ r. ⌜ LoadedFrom 8 1024 (now (bytes .entry)) r (now (words .exit)) ⌝ }
 {
     let len = bytes.len();
     if (len % 8 != 0) | (8192 < len) {
@@ -19,6 +19,19 @@ pub fn load_grid(bytes: &[u8], words: &mut [u64; 1024]) -> usize
     }
     carry::load_words(bytes, words);
     len / 8
+}
+
+// Reads the representatives of states from their bytes, into the front of names. Their number is 0 where the bytes are no such list's.
+pub fn load_names(bytes: &[u8], names: &mut [u16; 256]) -> usize
+    requires { ⌜ length (now names) ≡ 256 ⌝ }
+    ensures { λ r. ⌜ LoadedFrom 2 256 (now (bytes .entry)) r (now (names .exit)) ⌝ }
+{
+    let len = bytes.len();
+    if (len % 2 != 0) | (512 < len) {
+        return 0;
+    }
+    carry::load_numbers(bytes, names);
+    len / 2
 }
 
 // Normalise, into a buffer of the encoding's own length.

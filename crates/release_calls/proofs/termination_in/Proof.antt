@@ -3,7 +3,7 @@ use mathlib.Core.Path.{ap, _∙_}
 use native.Mathlib.Omega.{arith}
 use lib.ListN.{length}
 use borrow.Author.Needs.{needs}
-use Rattle.release_calls.proofs.Bytes.{words-length, count-fits}
+use Rattle.release_calls.proofs.Bytes.{carried-fits}
 use Rattle.release_calls.proofs.Calls.{end-refused, end-written}
 use Rattle.release_calls.proofs.termination_in.Statement.{statement}
 use Rattle.release_calls.proofs.termination_in.Tie as tie
@@ -24,7 +24,7 @@ store-words-requires : tie.Need-store-words-requires
 store-words-requires c κs =
     let e = c .before .before .before .before .before .before .before .before .before .before .before in
     let k = c .before .before .before .before .before .before .termination-preorder .kept .1 .0 in
-    omega (arith, k, ap length (e .pre), words-length (e .args .grid .now), count-fits (e .args .grid .now))
+    omega (arith, k, ap length (e .pre), carried-fits 8 1024 (e .args .grid .now))
 
 same-length : tie.Need-same-length
 same-length c = search needs
