@@ -65,6 +65,27 @@ pub fn read_three() -> [u16; 3] {
     three
 }
 
+// Reads one 16-bit number.
+fn read_number() -> u16 {
+    let mut two = [0u8; 2];
+    io::read_full(0, &mut two);
+    (wide(two[0]) + 256 * wide(two[1])) as u16
+}
+
+// Reads a field of 16-bit numbers into the front of numbers and answers how many there are. Of a field that is longer than numbers, the
+// rest is left unread.
+pub fn read_numbers(numbers: &mut [u16]) -> usize
+    ensures { λ r. ⌜ Counts r (now (numbers .exit)) ⌝ }
+{
+    let n = least(read_length() / 2, numbers.len());
+    let mut i = 0;
+    while i < n {
+        numbers[i] = read_number();
+        i += 1;
+    }
+    n
+}
+
 // Writes the first two numbers of a line.
 pub fn begin_line(number: u64, operation: u64) {
     io::print_decimal(1, number);
@@ -80,6 +101,11 @@ pub fn put_number(x: u64) {
 pub fn put_two(x: u64, y: u64) {
     put_number(x);
     put_number(y);
+}
+
+pub fn put_three(x: u64, y: u64, z: u64) {
+    put_two(x, y);
+    put_number(z);
 }
 
 pub fn end_line() {
@@ -113,4 +139,24 @@ pub fn checksum_words(words: &[u64]) -> u64
     let n = 8 * words.len();
     carry::store_words(words, &mut bytes);
     checksum(&bytes[..n])
+}
+
+// The checksum after the two bytes of a 16-bit number more.
+fn checksum_number(h: u64, x: u16) -> u64
+    requires { ⌜ h < 1000000007 ⌝ }
+    ensures { λ r. ⌜ r < 1000000007 ⌝ }
+{
+    let low = checksum_step(h, (x % 256) as u8);
+    checksum_step(low, (x / 256) as u8)
+}
+
+// The checksum of the bytes that 16-bit numbers carry.
+pub fn checksum_numbers(numbers: &[u16]) -> u64 {
+    let mut h = 0;
+    let mut i = 0;
+    while i < numbers.len() {
+        h = checksum_number(h, numbers[i]);
+        i += 1;
+    }
+    h
 }
