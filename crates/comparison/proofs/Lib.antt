@@ -1,0 +1,4 @@
+pub mod Append
+pub mod Join
+pub mod Runs
+pub mod Answers

@@ -1,0 +1,33 @@
+-- What the functions that join two tables say of each other.
+use Prim.Native.Nat.{ℕ, _+_, _≤_, _<_, max}
+use mathlib.Core.Path.{_≡_}
+use mathlib.Core.List.{List}
+use lib.ListN.{length, getD}
+use Rattle.lts.specs.System.{Lts}
+use Rattle.lts.specs.Table.{Table, tableLts, withTerminating, markedSet}
+use Rattle.lts.specs.Union.{disjointUnion}
+use Rattle.encoding.specs.declared.Header.{Header}
+use Rattle.encoding.specs.Denotation.{ltsOf}
+
+-- the list `after` is `before` with the first `count` numbers of `from`, each raised by `shift`, from place `at` on
+pub record Appended (shift : ℕ) (from : List ℕ) (count at : ℕ) (before after : List ℕ) : Type 0 where
+  pub long : length after ≡ length before
+  pub kept : (i : ℕ) → i < at → getD after i 0 ≡ getD before i 0
+  pub added : (i : ℕ) → i < count → getD after (at + i) 0 ≡ getD from i 0 + shift
+
+-- the system of a table with the marked states terminating
+abbrev pub markedLts : ℕ → ℕ → ℕ → List ℕ → List ℕ → List ℕ → List ℕ → Lts
+markedLts n m k marks sources actions targets = withTerminating (markedSet n marks) (tableLts n m k sources actions targets)
+
+-- a table in buffers of the loader's lengths
+pub record Held (n m k : ℕ) (marks sources actions targets : List ℕ) : Type 0 where
+  pub table : Table n m k sources actions targets
+  pub marks-long : length marks ≡ 256
+  pub sources-long : length sources ≡ 1024
+  pub actions-long : length actions ≡ 1024
+  pub targets-long : length targets ≡ 1024
+
+-- the table is that of the disjoint union of L and M (document 01's joined flow)
+pub record Joined (L M : Lts) (n m k : ℕ) (marks sources actions targets : List ℕ) : Type 0 where
+  pub table : Table n m k sources actions targets
+  pub same : markedLts n m k marks sources actions targets ≡ disjointUnion L M
