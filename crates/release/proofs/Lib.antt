@@ -2,3 +2,4 @@
 mod Runs
 mod Fronts
 mod Calls
+mod Compared

@@ -10,6 +10,8 @@ use Rattle.coarsest.specs.declared.Counts.{Counts}
 use Rattle.coarsest.specs.declared.Answer.{Answer}
 use Rattle.coarsest.specs.declared.Answer.the-variants.{Done, Refused}
 use Rattle.coarsest.specs.Call.{Outcome, coarsestCall}
+use Rattle.comparison.specs.declared.Compared.{Compared}
+use Rattle.comparison.specs.declared.Compared.the-variants.{Yes, No, Refused as Uncompared}
 use Rattle.release_calls.specs.Bytes.{wordsOf, namesOf}
 
 -- the numbers of a schedule (a turn list), of any length; an odd last byte is ignored
@@ -36,6 +38,12 @@ carriedBack o grid names = answered (o .answer) (o .grid) (o .names) grid names
 unfoldable pub flowCoarsest : List ℕ → List ℕ → List ℕ → List ℕ → List ℕ → Left
 flowCoarsest s preorder schedule grid names =
     carriedBack (coarsestCall s (wordsOf preorder) (scheduleOf schedule) (wordsOf grid) (namesOf names)) grid names
+
+-- compare: yes from bit 8 on, and the steps (turns) from bit 16
+abbrev pub comparedNumber : Compared → ℕ
+comparedNumber (Uncompared r) = refusalNumber r
+comparedNumber (Yes steps) = 2 ^ 8 + 2 ^ 16 * steps
+comparedNumber (No steps) = 2 ^ 16 * steps
 
 -- For the crate's own functions. The counts of a run keep to their fields.
 pub record Small (c : Counts) : Type 0 where

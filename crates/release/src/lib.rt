@@ -5,8 +5,9 @@ ghost use mathlib.Core.Bool.{cond};
 ghost use lib.Dec.{ltb};
 ghost use lib.ListN.{length};
 ghost use Rattle.coarsest.specs.Call.{coarsestCall, Promised};
+ghost use Rattle.comparison.specs.Call.{compareCall, Promised as Compares};
 ghost use Rattle.release_calls.specs.Bytes.{wordsOf, namesOf};
-ghost use Rattle.release.specs.Calls.{scheduleOf, LoadedSchedule, Small, countsNumber, carriedBack, flowCoarsest};
+ghost use Rattle.release.specs.Calls.{scheduleOf, LoadedSchedule, Small, countsNumber, carriedBack, flowCoarsest, comparedNumber};
 
 // How many bytes of a schedule are read: no run makes more than 256 * 255 steps.
 fn used(len: usize) -> usize
@@ -110,4 +111,18 @@ pub extern "C" fn flow_coarsest(
     let w = release_calls::load_grid(preorder, &mut words);
     let k = load_schedule(schedule, &mut numbers);
     coarsest_carried(s, &words[..w], &numbers[..k], grid, names)
+}
+
+// Compare.
+#[no_mangle]
+pub extern "C" fn flow_compare(first: &[u8], second: &[u8]) -> u64
+    ensures { λ r. ⌜ r ≡ comparedNumber (compareCall (now (first .entry)) (now (second .entry))) ⌝ }
+    ensures { λ _. ⌜ Compares (now (first .entry)) (now (second .entry)) (compareCall (now (first .entry)) (now (second .entry))) ⌝ }
+{
+    let answer = comparison::compare(first, second);
+    match answer {
+        comparison::Compared::Refused(r) => lts::refusal_number(r),
+        comparison::Compared::Yes(steps) => 256 + 65536 * (steps as u64),
+        comparison::Compared::No(steps) => 65536 * (steps as u64),
+    }
 }
