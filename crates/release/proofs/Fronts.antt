@@ -1,0 +1,75 @@
+-- The first numbers of those that bytes carry. (The first two laws belong to carry.)
+use Prim.Native.Nat.{ℕ, zero, suc, _+_, _*_, _/_, _<_, _≤_}
+use native.Mathlib.Nat.{mul-suc, le-of-suc-le-suc, le-refl, not-suc-le-zero}
+use native.Mathlib.Omega.{arith}
+use mathlib.Core.Path.{_≡_, refl, sym, ap, _∙_}
+use mathlib.Core.Bool.{Bool, true, false, cond}
+use mathlib.Core.List.{List, [], _∷_, _++_}
+use borrow.Author.Tests.{ltb-true, ltb-false}
+use lib.Dec.{ltb}
+use lib.ListN.{length, take, drop, length-drop}
+use lib.Seq.{take-at, take-all, take-add, drop-at, length-take-le, take-length}
+use Rattle.carry.specs.Carried.{numberOf, numbersOf, loaded}
+use Rattle.carry.proofs.Laws.{numbers-length}
+use Rattle.release.specs.Calls.{scheduleOf, LoadedSchedule}
+
+-- n numbers are in the first k * n bytes
+numbers-front : (k n : ℕ) (bs : List ℕ) → k * n ≤ length bs → numbersOf k n (take (k * n) bs) ≡ numbersOf k n bs
+unfolding numbersOf
+numbers-front k zero bs h = refl
+numbers-front k (suc n) bs h =
+    let e : k * suc n ≡ k + k * n = mul-suc k n ∙ omega arith in
+    let l : length (take k bs) ≡ k = length-take-le k bs (omega arith) in
+    let front : take k (take (k * suc n) bs) ≡ take k bs = rw (e, take-add k (k * n) bs) (take-at (take k bs) (take (k * n) (drop k bs)) k l) in
+    let rest : drop k (take (k * suc n) bs) ≡ take (k * n) (drop k bs) = rw (e, take-add k (k * n) bs) (drop-at (take k bs) (take (k * n) (drop k bs)) k l) in
+    rw (front, rest, numbers-front k n (drop k bs) (omega (arith, length-drop k bs)))
+
+numbers-take : (k m n : ℕ) (bs : List ℕ) → m ≤ n → take m (numbersOf k n bs) ≡ numbersOf k m bs
+unfolding numbersOf
+numbers-take k zero n bs h = refl
+numbers-take k (suc m) zero bs h = absurd (not-suc-le-zero h)
+numbers-take k (suc m) (suc n) bs h = ap (λ (l : List ℕ). numberOf (take k bs) ∷ l) (numbers-take k m n (drop k bs) (le-of-suc-le-suc h))
+
+-- what is read of a schedule: all of it, or the first `most` numbers
+module _ (most : ℕ) (bytes old numbers : List ℕ) (long : length numbers ≡ most) where
+  abbrev cut : ℕ → Type 0
+  cut c = numbers ≡ loaded 2 (take c bytes) old → LoadedSchedule most bytes (c / 2) numbers
+
+  cut-all : length bytes ≤ 2 * most → cut (length bytes)
+  unfolding loaded scheduleOf
+  cut-all h e =
+      let few : length bytes / 2 ≤ most = omega arith in
+      let all : numbers ≡ numbersOf 2 (length bytes / 2) bytes ++ drop (length bytes / 2) old = rw (take-length bytes) at e in
+      let n = numbers-length 2 (length bytes / 2) bytes in
+      record {
+        few = few;
+        long = long;
+        loaded = rw (all, take-at (numbersOf 2 (length bytes / 2) bytes) (drop (length bytes / 2) old) (length bytes / 2) n) (sym (take-all most (numbersOf 2 (length bytes / 2) bytes) (omega arith)));
+      }
+
+  cut-front : 2 * most < length bytes → cut (2 * most)
+  unfolding loaded scheduleOf
+  cut-front h e =
+      let half : 2 * most / 2 ≡ most = omega arith in
+      let l : length (take (2 * most) bytes) ≡ 2 * most = length-take-le (2 * most) bytes (omega arith) in
+      let front : numbers ≡ numbersOf 2 most bytes ++ drop most old = rw (l, half, numbers-front 2 most bytes (omega arith)) at e in
+      rw half (record {
+        few = le-refl most;
+        long = long;
+        loaded = rw (front, take-at (numbersOf 2 most bytes) (drop most old) most (numbers-length 2 most bytes)) (sym (numbers-take 2 most (length bytes / 2) bytes (omega arith)));
+      })
+
+  pub schedule-cut : (c : ℕ) → c ≡ cond (ltb (2 * most) (length bytes)) (2 * most) (length bytes) → cut c
+  schedule-cut c e = rw e (by (ltb (2 * most) (length bytes)) refl)
+    where
+      by : (b : Bool) → ltb (2 * most) (length bytes) ≡ b → cut (cond b (2 * most) (length bytes))
+      by true t = cut-front (ltb-true (2 * most) (length bytes) t)
+      by false t = cut-all (ltb-false (2 * most) (length bytes) t)
+
+-- as much fits the buffer
+pub cut-fits : (most : ℕ) (bytes : List ℕ) (c : ℕ) → c ≡ cond (ltb (2 * most) (length bytes)) (2 * most) (length bytes) → (c ≤ length bytes) × (c ≤ 2 * most)
+cut-fits most bytes c e = rw e (by (ltb (2 * most) (length bytes)) refl)
+  where
+    by : (b : Bool) → ltb (2 * most) (length bytes) ≡ b → (cond b (2 * most) (length bytes) ≤ length bytes) × (cond b (2 * most) (length bytes) ≤ 2 * most)
+    by true t = let l = ltb-true (2 * most) (length bytes) t in (omega arith, omega arith)
+    by false t = let l = ltb-false (2 * most) (length bytes) t in (omega arith, omega arith)
