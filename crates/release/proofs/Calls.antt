@@ -30,7 +30,7 @@ use Rattle.coarsest.specs.declared.Answer.{Answer}
 use Rattle.coarsest.specs.declared.Answer.the-variants.{Done, Refused}
 use Rattle.coarsest.specs.Call.{Outcome, countsOf, refined, refusal, checkedOutcome, readOutcome, coarsestCall}
 use Rattle.coarsest.proofs.Laws.{promised}
-use Rattle.release_calls.specs.Bytes.{wordsOf, namesOf}
+use Rattle.release.specs.Bytes.{wordsOf, namesOf}
 use Rattle.release.specs.Calls.{scheduleOf, Left, Small, countsNumber, carriedBack, flowCoarsest}
 use Rattle.release.proofs.Runs.{coarsest-same}
 

@@ -12,7 +12,7 @@ use Rattle.coarsest.specs.declared.Answer.the-variants.{Done, Refused}
 use Rattle.coarsest.specs.Call.{Outcome, coarsestCall}
 use Rattle.comparison.specs.declared.Compared.{Compared}
 use Rattle.comparison.specs.declared.Compared.the-variants.{Yes, No, Refused as Uncompared}
-use Rattle.release_calls.specs.Bytes.{wordsOf, namesOf}
+use Rattle.release.specs.Bytes.{wordsOf, namesOf}
 
 -- the numbers of a schedule (a turn list), of any length; an odd last byte is ignored
 unfoldable pub scheduleOf : List ℕ → List ℕ

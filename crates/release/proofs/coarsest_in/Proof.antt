@@ -3,7 +3,7 @@ use mathlib.Core.Path.{ap, sym, _∙_}
 use native.Mathlib.Omega.{arith}
 use lib.ListN.{length}
 use borrow.Author.Needs.{needs}
-use Rattle.release_calls.proofs.Bytes.{carried-fits}
+use Rattle.release.proofs.Bytes.{carried-fits}
 use Rattle.release.proofs.Calls.{done-small, back-refused, back-done}
 use Rattle.release.proofs.coarsest_in.Statement.{statement}
 use Rattle.release.proofs.coarsest_in.Tie as tie

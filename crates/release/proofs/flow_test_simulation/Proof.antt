@@ -1,10 +1,10 @@
--- `release_calls::flow_test_simulation` meets its contract, by the cases of the answer on the words that the bytes carry.
+-- `release::flow_test_simulation` meets its contract, by the cases of the answer on the words that the bytes carry.
 use mathlib.Core.Path.{sym}
 use native.Mathlib.Omega.{arith}
 use lib.Seq.{length-take-le}
 use borrow.Author.Needs.{needs}
-use Rattle.release_calls.proofs.flow_test_simulation.Statement.{statement}
-use Rattle.release_calls.proofs.flow_test_simulation.Tie as tie
+use Rattle.release.proofs.flow_test_simulation.Statement.{statement}
+use Rattle.release.proofs.flow_test_simulation.Tie as tie
 
 load-grid-requires : tie.Need-load-grid-requires
 load-grid-requires c κs = search needs

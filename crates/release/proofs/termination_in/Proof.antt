@@ -1,12 +1,12 @@
--- `release_calls::termination_in` meets its contract: the words are stored unless the call is refused.
+-- `release::termination_in` meets its contract: the words are stored unless the call is refused.
 use mathlib.Core.Path.{ap, _∙_}
 use native.Mathlib.Omega.{arith}
 use lib.ListN.{length}
 use borrow.Author.Needs.{needs}
-use Rattle.release_calls.proofs.Bytes.{carried-fits}
-use Rattle.release_calls.proofs.Calls.{end-refused, end-written}
-use Rattle.release_calls.proofs.termination_in.Statement.{statement}
-use Rattle.release_calls.proofs.termination_in.Tie as tie
+use Rattle.release.proofs.Bytes.{carried-fits}
+use Rattle.release.proofs.Terminations.{end-refused, end-written}
+use Rattle.release.proofs.termination_in.Statement.{statement}
+use Rattle.release.proofs.termination_in.Tie as tie
 
 termination-preorder-requires : tie.Need-termination-preorder-requires
 termination-preorder-requires c κs = search needs

@@ -12,7 +12,7 @@ use Rattle.simulation.specs.declared.Termination.the-variants.{Written, Refused
 use Rattle.simulation.specs.Calls.{terminationCall}
 use Rattle.game.specs.declared.Played.{Played}
 use Rattle.game.specs.declared.Played.the-variants.{Won, NotWon, Refused as Unplayed}
-use Rattle.release_calls.specs.Bytes.{wordsOf}
+use Rattle.release.specs.Bytes.{wordsOf}
 
 -- normalise: no value
 abbrev pub normalisedNumber : Normalised → ℕ

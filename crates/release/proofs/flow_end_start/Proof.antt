@@ -1,10 +1,10 @@
--- `release_calls::flow_end_start` meets its contract: the words are those that the bytes carry.
+-- `release::flow_end_start` meets its contract: the words are those that the bytes carry.
 use mathlib.Core.Path.{sym}
 use native.Mathlib.Omega.{arith}
 use lib.Seq.{length-take-le}
 use borrow.Author.Needs.{needs}
-use Rattle.release_calls.proofs.flow_end_start.Statement.{statement}
-use Rattle.release_calls.proofs.flow_end_start.Tie as tie
+use Rattle.release.proofs.flow_end_start.Statement.{statement}
+use Rattle.release.proofs.flow_end_start.Tie as tie
 
 load-grid-requires : tie.Need-load-grid-requires
 load-grid-requires c κs = search needs

@@ -12,7 +12,7 @@ use lib.ListN.{length, take, drop}
 use lib.Seq.{take-at}
 use Rattle.carry.specs.Carried.{numbersOf, loaded}
 use Rattle.carry.proofs.Laws.{numbers-length}
-use Rattle.release_calls.specs.Bytes.{countOf, carriedBy, LoadedFrom}
+use Rattle.release.specs.Bytes.{countOf, carriedBy, LoadedFrom}
 
 module _ (k most : ℕ) (g : List ℕ) where
   -- what is carried fits the bytes

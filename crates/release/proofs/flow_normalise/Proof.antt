@@ -1,9 +1,9 @@
--- `release_calls::flow_normalise` meets its contract, by the cases of the answer.
+-- `release::flow_normalise` meets its contract, by the cases of the answer.
 use mathlib.Core.Path.{ap, sym, _∙_}
 use borrow.Author.Needs.{needs}
-use Rattle.release_calls.specs.Calls.{normalisedNumber}
-use Rattle.release_calls.proofs.flow_normalise.Statement.{statement}
-use Rattle.release_calls.proofs.flow_normalise.Tie as tie
+use Rattle.release.specs.Answers.{normalisedNumber}
+use Rattle.release.proofs.flow_normalise.Statement.{statement}
+use Rattle.release.proofs.flow_normalise.Tie as tie
 
 normalise-requires : tie.Need-normalise-requires
 normalise-requires c κs = search needs

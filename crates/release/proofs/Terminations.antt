@@ -8,8 +8,8 @@ use Rattle.carry.specs.Carried.{stored}
 use Rattle.simulation.specs.declared.Termination.{Termination}
 use Rattle.simulation.specs.declared.Termination.the-variants.{Written, Refused}
 use Rattle.simulation.specs.Calls.{terminationCall}
-use Rattle.release_calls.specs.Bytes.{wordsOf}
-use Rattle.release_calls.specs.Calls.{endStart}
+use Rattle.release.specs.Bytes.{wordsOf}
+use Rattle.release.specs.Answers.{endStart}
 
 module _ (s grid words : List ℕ) (loaded : words ≡ wordsOf grid) (a : Termination) (answered : a ≡ terminationCall s words .answer) where
   pub end-refused : (r : Refusal) → a ≡ Refused r → (refusalNumber r ≡ endStart s grid .result) × (grid ≡ endStart s grid .grid)

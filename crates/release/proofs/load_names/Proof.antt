@@ -1,9 +1,9 @@
--- `release_calls::load_names` meets its contract, by the test of the bytes' length.
+-- `release::load_names` meets its contract, by the test of the bytes' length.
 use mathlib.Core.Path.{_∙_}
 use native.Mathlib.Omega.{arith}
-use Rattle.release_calls.proofs.Bytes.{whole-few, loaded-none, loaded-whole}
-use Rattle.release_calls.proofs.load_names.Statement.{statement}
-use Rattle.release_calls.proofs.load_names.Tie as tie
+use Rattle.release.proofs.Bytes.{whole-few, loaded-none, loaded-whole}
+use Rattle.release.proofs.load_names.Statement.{statement}
+use Rattle.release.proofs.load_names.Tie as tie
 
 returns : tie.Need-returns
 returns c = loaded-none 2 256 _ (c .if1 .taken) _ (c .before .before .pre)
