@@ -11,9 +11,16 @@ use borrow.Author.Tests.{eq-eqb, ne-eqb, lt-ltb, le-ltb, eqb-true}
 use Rattle.lts.specs.Bounded.{_⇒_, anyBelow}
 use Rattle.lts.specs.System.{Rel, Lts, allStates}
 use Rattle.lts.specs.Table.{Table, Rows, tableLts}
-use Rattle.relation.proofs.Bounded.{clash, either, and-fst, and-snd, implies-of, implies-use, all-yes, all-not, any-yes, any-no}
+use Rattle.relation.proofs.Bounded.{clash, either, and-fst, and-snd, all-yes, all-not, any-yes, any-no}
 use Rattle.strategy_check.specs.Entries.{holdsPair, heldBefore, repliesHeld, outside, soundOver, soundAt}
 use Rattle.strategy_check.proofs.Rows.{Between, InRow, row-below, row-transition, transition-row}
+
+implies-of : (a b : Bool) → (a ≡ true → b ≡ true) → (a ⇒ b) ≡ true
+implies-of true b f = f refl
+implies-of false b f = refl
+
+implies-use : (a b : Bool) → (a ⇒ b) ≡ true → a ≡ true → b ≡ true
+implies-use a b e p = sym (ap (λ (x : Bool). x ⇒ b) p) ∙ e
 
 -- entry j before number e holds the pair; no entry does
 pub held-at : (xs : List ℕ) (e t r j : ℕ) → j < e → holdsPair xs t r j ≡ true → heldBefore xs e t r ≡ true
