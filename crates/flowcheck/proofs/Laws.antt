@@ -1,21 +1,20 @@
 -- What is printed is small: the numbers of refusals, and the counts of coarsest on a readable encoding.
 use Prim.Native.Nat.{ℕ, _*_, _-_, _≤_, _<_}
-use mathlib.Core.Path.{_≡_, refl, sym, ap, subst, _∙_}
+use mathlib.Core.Path.{_≡_, refl, subst}
 use mathlib.Core.Bool.{Bool, true, false, cond, _&&_}
 use mathlib.Core.List.{List}
-use native.Mathlib.Nat.{le-trans, mul-le-mul}
+use native.Mathlib.Nat.{mul-le-mul}
 use native.Mathlib.Omega.{arith}
 use lib.Dec.{eqb}
 use lib.ListN.{length}
 use Rattle.lts.specs.System.{Lts, Rel}
-use Rattle.lts.specs.Refinement.{Run, pairCount, blockCount, isRepresentative, coarsest}
+use Rattle.lts.specs.Refinement.{Run, blockCount, isRepresentative, coarsest}
 use Rattle.lts.proofs.Count.{count-most}
 use Rattle.lts.proofs.Run.{pair-count-most}
 use Rattle.lts.specs.declared.Refusal.{Refusal}
 use Rattle.lts.specs.declared.Refusal.the-variants.{Length, Range, StateRecord, TransitionRecord, Chain, Repeated, TooLarge, Grid, NotReflexive, NotTransitive, NoState, TooManyRounds, StillRelated, Unsound, Buffer}
 use Rattle.lts.specs.Refusal.{refusalNumber}
 use Rattle.encoding.specs.declared.Header.{Header}
-use Rattle.encoding.specs.declared.Reading.{Reading}
 use Rattle.encoding.specs.declared.Reading.the-variants.{Readable}
 use Rattle.encoding.specs.Encoding.{readEncoding}
 use Rattle.encoding.specs.Denotation.{ltsOf}
@@ -25,8 +24,7 @@ use Rattle.relation.specs.declared.Checked.the-variants.{Preorder, Refused as U
 use Rattle.relation.specs.Matrix.{rowWords, relationOf}
 use Rattle.relation.specs.Check.{checkPreorder}
 use Rattle.coarsest.specs.declared.Counts.{Counts}
-use Rattle.coarsest.specs.declared.Answer.{Answer}
-use Rattle.coarsest.specs.declared.Answer.the-variants.{Done, Refused}
+use Rattle.coarsest.specs.declared.Answer.the-variants.{Done}
 use Rattle.coarsest.specs.Call.{countsOf, refusal, refined, checkedOutcome, readOutcome, coarsestCall}
 use Rattle.coarsest.proofs.Laws.{promised}
 use Rattle.flowcheck.specs.Flow.{Small}
