@@ -31,7 +31,7 @@ use Rattle.coarsest.specs.declared.Answer.the-variants.{Done, Refused}
 use Rattle.coarsest.specs.Call.{Outcome, countsOf, refined, refusal, checkedOutcome, readOutcome, coarsestCall}
 use Rattle.coarsest.proofs.Laws.{promised}
 use Rattle.release.specs.Bytes.{wordsOf, namesOf}
-use Rattle.release.specs.Calls.{scheduleOf, Left, Small, countsNumber, carriedBack, flowCoarsest}
+use Rattle.release.specs.Calls.{scheduleOf, Left, Small, countsNumber, carriedBack, coarsestOnBytes, flowCoarsest}
 use Rattle.release.proofs.Runs.{coarsest-same}
 
 -- of at most 256 states
@@ -101,7 +101,7 @@ module _ (s start es grid names : List ℕ) where
 -- what is carried back, by the answer on the words and names that the bytes carry
 module _ (s start es grid names words numbers : List ℕ) (w : words ≡ wordsOf grid) (n : numbers ≡ namesOf names) (a : Answer) (is : a ≡ coarsestCall s start es words numbers .answer) where
   abbrev back : Left
-  back = carriedBack (coarsestCall s start es (wordsOf grid) (namesOf names)) grid names
+  back = coarsestOnBytes s start es grid names
 
   pub back-refused : (r : Refusal) → a ≡ Refused r → (refusalNumber r ≡ back .result) × (grid ≡ back .grid) × (names ≡ back .names)
   unfolding carriedBack
@@ -113,6 +113,6 @@ module _ (s start es grid names words numbers : List ℕ) (w : words ≡ wordsOf
   back-done c g m gw mw e = (rw (← w, ← n, ← is, e), rw (← w, ← n, ← is, e, gw), rw (← w, ← n, ← is, e, mw))
 
 pub flow-is : (s preorder schedule grid names words numbers : List ℕ) → words ≡ wordsOf preorder → numbers ≡ take 65280 (scheduleOf schedule)
-    → carriedBack (coarsestCall s words numbers (wordsOf grid) (namesOf names)) grid names ≡ flowCoarsest s preorder schedule grid names
+    → coarsestOnBytes s words numbers grid names ≡ flowCoarsest s preorder schedule grid names
 unfolding flowCoarsest
 flow-is s preorder schedule grid names words numbers w n = rw (w, n, call-cut s (wordsOf preorder) (scheduleOf schedule) (wordsOf grid) (namesOf names) 65280 (le-refl 65280))

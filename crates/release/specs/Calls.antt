@@ -35,9 +35,12 @@ answered (Done c) words numbers grid names = record { result = countsNumber c; g
 unfoldable pub carriedBack : Outcome → List ℕ → List ℕ → Left
 carriedBack o grid names = answered (o .answer) (o .grid) (o .names) grid names
 
+-- coarsest with the preorder's words and the schedule's numbers, on the bytes of its two buffers
+abbrev pub coarsestOnBytes : List ℕ → List ℕ → List ℕ → List ℕ → List ℕ → Left
+coarsestOnBytes s preorder schedule grid names = carriedBack (coarsestCall s preorder schedule (wordsOf grid) (namesOf names)) grid names
+
 unfoldable pub flowCoarsest : List ℕ → List ℕ → List ℕ → List ℕ → List ℕ → Left
-flowCoarsest s preorder schedule grid names =
-    carriedBack (coarsestCall s (wordsOf preorder) (scheduleOf schedule) (wordsOf grid) (namesOf names)) grid names
+flowCoarsest s preorder schedule grid names = coarsestOnBytes s (wordsOf preorder) (scheduleOf schedule) grid names
 
 -- compare: yes from bit 8 on, and the steps (turns) from bit 16
 abbrev pub comparedNumber : Compared → ℕ

@@ -7,11 +7,11 @@ ghost use lib.ListN.{length};
 ghost use Rattle.encoding.specs.Normalise.{normalised};
 ghost use Rattle.simulation.specs.Calls.{simulationCall};
 ghost use Rattle.game.specs.Play.{handPlay};
-ghost use Rattle.coarsest.specs.Call.{coarsestCall, Promised};
+ghost use Rattle.coarsest.specs.Call.{Promised};
 ghost use Rattle.comparison.specs.Call.{compareCall, Promised as Compares};
 ghost use Rattle.release.specs.Bytes.{wordsOf, namesOf, LoadedFrom};
 ghost use Rattle.release.specs.Answers.{normalisedNumber, testedNumber, playedNumber, endStart};
-ghost use Rattle.release.specs.Calls.{scheduleOf, LoadedSchedule, Small, countsNumber, carriedBack, flowCoarsest, comparedNumber};
+ghost use Rattle.release.specs.Calls.{scheduleOf, LoadedSchedule, Small, countsNumber, coarsestOnBytes, flowCoarsest, comparedNumber};
 
 // Reads the words of a grid from its bytes, into the front of words. Their number is 0 where the bytes are no grid's.
 fn load_grid(bytes: &[u8], words: &mut [u64; 1024]) -> usize
@@ -80,9 +80,9 @@ fn coarsest_in(
     numbers: &mut [u16],
 ) -> u64
     requires { ⌜ (now words ≡ wordsOf (now grid)) × (now numbers ≡ namesOf (now names)) ⌝ }
-    ensures { λ r. ⌜ r ≡ carriedBack (coarsestCall (now (s .entry)) (now (preorder .entry)) (now (schedule .entry)) (wordsOf (now (grid .entry))) (namesOf (now (names .entry)))) (now (grid .entry)) (now (names .entry)) .result ⌝ }
-    ensures { λ _. ⌜ now (grid .exit) ≡ carriedBack (coarsestCall (now (s .entry)) (now (preorder .entry)) (now (schedule .entry)) (wordsOf (now (grid .entry))) (namesOf (now (names .entry)))) (now (grid .entry)) (now (names .entry)) .grid ⌝ }
-    ensures { λ _. ⌜ now (names .exit) ≡ carriedBack (coarsestCall (now (s .entry)) (now (preorder .entry)) (now (schedule .entry)) (wordsOf (now (grid .entry))) (namesOf (now (names .entry)))) (now (grid .entry)) (now (names .entry)) .names ⌝ }
+    ensures { λ r. ⌜ r ≡ coarsestOnBytes (now (s .entry)) (now (preorder .entry)) (now (schedule .entry)) (now (grid .entry)) (now (names .entry)) .result ⌝ }
+    ensures { λ _. ⌜ now (grid .exit) ≡ coarsestOnBytes (now (s .entry)) (now (preorder .entry)) (now (schedule .entry)) (now (grid .entry)) (now (names .entry)) .grid ⌝ }
+    ensures { λ _. ⌜ now (names .exit) ≡ coarsestOnBytes (now (s .entry)) (now (preorder .entry)) (now (schedule .entry)) (now (grid .entry)) (now (names .entry)) .names ⌝ }
 {
     let answer = coarsest::coarsest(s, preorder, schedule, words, numbers);
     match answer {
@@ -103,9 +103,9 @@ fn coarsest_carried(
     grid: &mut [u8],
     names: &mut [u8],
 ) -> u64
-    ensures { λ r. ⌜ r ≡ carriedBack (coarsestCall (now (s .entry)) (now (preorder .entry)) (now (schedule .entry)) (wordsOf (now (grid .entry))) (namesOf (now (names .entry)))) (now (grid .entry)) (now (names .entry)) .result ⌝ }
-    ensures { λ _. ⌜ now (grid .exit) ≡ carriedBack (coarsestCall (now (s .entry)) (now (preorder .entry)) (now (schedule .entry)) (wordsOf (now (grid .entry))) (namesOf (now (names .entry)))) (now (grid .entry)) (now (names .entry)) .grid ⌝ }
-    ensures { λ _. ⌜ now (names .exit) ≡ carriedBack (coarsestCall (now (s .entry)) (now (preorder .entry)) (now (schedule .entry)) (wordsOf (now (grid .entry))) (namesOf (now (names .entry)))) (now (grid .entry)) (now (names .entry)) .names ⌝ }
+    ensures { λ r. ⌜ r ≡ coarsestOnBytes (now (s .entry)) (now (preorder .entry)) (now (schedule .entry)) (now (grid .entry)) (now (names .entry)) .result ⌝ }
+    ensures { λ _. ⌜ now (grid .exit) ≡ coarsestOnBytes (now (s .entry)) (now (preorder .entry)) (now (schedule .entry)) (now (grid .entry)) (now (names .entry)) .grid ⌝ }
+    ensures { λ _. ⌜ now (names .exit) ≡ coarsestOnBytes (now (s .entry)) (now (preorder .entry)) (now (schedule .entry)) (now (grid .entry)) (now (names .entry)) .names ⌝ }
 {
     let mut words = [0u64; 1024];
     let mut numbers = [0u16; 256];
@@ -203,16 +203,16 @@ pub extern "C" fn flow_test_simulation(s: &[u8], preorder: &[u8], claim: &[u8]) 
 }
 
 // End start, with the words that the bytes carry.
-fn termination_in(s: &[u8], grid: &mut [u8], words: &mut [u64]) -> u64
-    requires { ⌜ now words ≡ wordsOf (now grid) ⌝ }
+fn termination_in(s: &[u8], grid: &mut [u8], matrix: &mut [u64]) -> u64
+    requires { ⌜ now matrix ≡ wordsOf (now grid) ⌝ }
     ensures { λ r. ⌜ r ≡ endStart (now (s .entry)) (now (grid .entry)) .result ⌝ }
     ensures { λ _. ⌜ now (grid .exit) ≡ endStart (now (s .entry)) (now (grid .entry)) .grid ⌝ }
 {
-    let answer = simulation::termination_preorder(s, words);
+    let answer = simulation::termination_preorder(s, matrix);
     match answer {
         simulation::Termination::Refused(r) => lts::refusal_number(r),
         simulation::Termination::Written => {
-            carry::store_words(words, grid);
+            carry::store_words(matrix, grid);
             0
         }
     }
