@@ -1,4 +1,4 @@
--- The rounds final in the coarsest isSimulation: a pair is outside it exactly if it falls at some round.
+-- The rounds end in the coarsest simulation: a pair is outside it exactly if it falls at some round.
 use Prim.Native.Nat.{ℕ, zero, suc, _+_, _*_, _≤_, _<_, zero-le, suc-le-suc}
 use native.Mathlib.Nat.{le-refl, le-trans, le-of-eq, le-step, le-antisymm, le-suc-iff, le-of-suc-le-suc, not-suc-le-zero, zero-lt-suc, add-zero}
 use native.Mathlib.Omega.{arith}
@@ -35,7 +35,7 @@ module _ (L : Lts) (wf : WellFormed L) (preorder : Rel) where
   round-states zero p q t = first-iff p q .0 t
   round-states (suc j) p q t = round-states j p q (next-iff j p q .0 t .0)
 
-  -- every isSimulation inside the preorder stays in every round
+  -- every simulation inside the preorder stays in every round
   pub round-contains : (S : Relation) → Simulation L preorder S → (j p q : ℕ) → S p q → On (W j) p q
   round-contains S sim zero p q s = let l = sim .states s in first-iff p q .1 (l .0, l .1, sim .inside s)
   round-contains S sim (suc j) p q s =
@@ -103,7 +103,7 @@ module _ (L : Lts) (wf : WellFormed L) (preorder : Rel) where
     answer = λ {p} {q} a r t m. next-iff j p q .0 (stable p q t) .1 a r m;
   }
 
-  -- a pair that is not in round j has entriesIn by then
+  -- a pair that is not in round j has fallen by then
   pub refuted-by : (j p q : ℕ) → (On (W j) p q → ⊥) → (i : ℕ) × (i ≤ j) × T (refutedAt L preorder i p q)
   unfolding refutedAt
   refuted-by zero p q f = (zero, le-refl zero, not-iff (W zero p q) .1 f)
@@ -155,7 +155,7 @@ module _ (L : Lts) (wf : WellFormed L) (preorder : Rel) where
       go (inr (inl l)) = absurd (refuted-late j i p q l g f)
       go (inr (inr e)) = e
 
-  -- A pair outside the coarsest isSimulation falls, by round n * n, and then `refutationRound` is its round.
+  -- A pair outside the coarsest simulation falls, by round n * n, and then `refutationRound` is its round.
   pub dropped-refuted : (K : Rel) → Coarsest L preorder K → (p q : ℕ) → (On K p q → ⊥) → T (refutedAt L preorder (refutationRound L preorder p q) p q)
   unfolding refutationRound
   dropped-refuted K 𝓚 p q f =
@@ -163,7 +163,7 @@ module _ (L : Lts) (wf : WellFormed L) (preorder : Rel) where
       let r = refuted-by (s .0) p q (λ t. f (𝓚 .greatest (On (W (s .0))) (stable-simulates (s .0) (s .2)) p q t)) in
       lowest-passes (suc (L .states * L .states)) (λ j. refutedAt L preorder j p q) (r .0) (suc-le-suc (le-trans (r .1) (s .1))) (r .2) .1
 
-  -- (p, q) is outside the coarsest isSimulation exactly if it falls at some round
+  -- (p, q) is outside the coarsest simulation exactly if it falls at some round
   pub dropped-iff : (K : Rel) → Coarsest L preorder K → (p q : ℕ) → (On K p q → ⊥) ↔ ((j : ℕ) × T (refutedAt L preorder j p q))
   dropped-iff K 𝓚 p q = (
     λ f. (refutationRound L preorder p q, dropped-refuted K 𝓚 p q f),

@@ -1,4 +1,4 @@
--- The run of steps: it begins in the invariant, ends with nothing pending, and its K is then the coarsest isSimulation inside the preorder.
+-- The run of steps: it begins in the invariant, ends with nothing pending, and its K is then the coarsest simulation inside the preorder.
 use Prim.Native.Nat.{ℕ, zero, suc, _+_, _*_, _-_, _%_, _≤_, _<_}
 use native.Mathlib.Nat.{le-refl, le-antisymm, not-suc-le-zero, le-of-suc-le-suc, mod-lt, zero-add}
 use native.Mathlib.Omega.{arith}
@@ -16,7 +16,7 @@ use Rattle.lts.proofs.Count.{sum-lt, sum-most, sum-least, count-le, cou
 use Rattle.lts.proofs.System.{into-to, into-from, Preorder}
 use Rattle.lts.proofs.Step.{On, Inv, block-iff, step-inv, viewed-shrinks, viewed-at}
 
--- ---- the initial
+-- ---- the beginning
 
 module _ (L : Lts) (wf : WellFormed L) (preorder : Rel) where
   -- q has a transition by each action that p has a transition by
@@ -105,7 +105,7 @@ module _ (L : Lts) (wf : WellFormed L) (preorder : Rel) where
 
 -- ---- nothing pending
 
--- K is the coarsest isSimulation inside the preorder, and a preorder
+-- K is the coarsest simulation inside the preorder, and a preorder
 pub record Coarsest (L : Lts) (preorder K : Rel) : Type 1 where
   pub simulates : Simulation L preorder (On K)
   pub loop : (g : ℕ) → g < L .states → On K g g
@@ -300,7 +300,7 @@ module _ (L : Lts) (wf : WellFormed L) (preorder : Rel) (pre : Preorder L preord
   pub coarsest-settled : T (anyState L (pending L (coarsest L preorder es .final))) → ⊥
   coarsest-settled = ends .none (pair-count-most L (initial L preorder .viewed))
 
-  -- and its K is the coarsest isSimulation
+  -- and its K is the coarsest simulation
   pub coarsest-is : Coarsest L preorder (coarsest L preorder es .final .related)
   coarsest-is = settled-coarsest L wf preorder (coarsest L preorder es .final) (ends .inv) coarsest-settled
 
@@ -319,12 +319,12 @@ module _ (L : Lts) (wf : WellFormed L) (preorder : Rel) (pre : Preorder L preord
   coarsest-fuel more l =
       run-fuel L wf preorder es (L .states * L .states) more 0 (initial L preorder) (initial-inv L wf preorder pre) (pair-count-most L (initial L preorder .viewed)) l
 
--- there is one coarsest isSimulation
+-- there is one coarsest simulation
 pub coarsest-unique : (L : Lts) (preorder K M : Rel) → Coarsest L preorder K → Coarsest L preorder M → K ≡ M
 coarsest-unique L preorder K M 𝓚 𝓛 =
     fun-ext (λ p. fun-ext (λ q. test-ext (K p q) (M p q) (𝓛 .greatest (On K) (𝓚 .simulates) p q) (𝓚 .greatest (On M) (𝓛 .simulates) p q)))
 
--- so K does not depend on the step list
+-- so K does not depend on the schedule
 pub same-for-all-schedules : (L : Lts) (wf : WellFormed L) (preorder : Rel) → Preorder L preorder → (es fs : List ℕ) → coarsest L preorder es .final .related ≡ coarsest L preorder fs .final .related
 same-for-all-schedules L wf preorder pre es fs =
     coarsest-unique L preorder (coarsest L preorder es .final .related) (coarsest L preorder fs .final .related) (coarsest-is L wf preorder pre es) (coarsest-is L wf preorder pre fs)

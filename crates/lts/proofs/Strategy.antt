@@ -1,4 +1,4 @@
--- A strategy that is allSound holds only dropped pairCount, and the strategy that is written for a dropped pair is allSound.
+-- A strategy that is accepted holds only dropped pairs, and the strategy that is written for a dropped pair is accepted.
 use Prim.Native.Nat.{ℕ, zero, suc, _≤_, _<_}
 use native.Mathlib.Nat.{not-suc-le-zero, le-step, lt-of-le-of-lt, lt-suc-self}
 use native.Mathlib.Numerals.{add-one}
@@ -145,7 +145,7 @@ module _ (L : Lts) (wf : WellFormed L) (preorder : Rel) where
             all-state-iff L (λ r. L .transition (e .q) (e .a) r ⇒ holds earlier (e .t) r) .1 (λ r _. imp-iff (L .transition (e .q) (e .a) r) (holds earlier (e .t) r) .1 (c .1 r)),
           ))
 
-  -- ---- an allSound strategy holds no pair of a isSimulation
+  -- ---- an accepted strategy holds no pair of a simulation
 
   module _ (S : Relation) (sim : Simulation L preorder S) where
     abbrev Refutes : List Entry → Type 0
@@ -170,7 +170,7 @@ module _ (L : Lts) (wf : WellFormed L) (preorder : Rel) where
         let f = entry-refutes earlier e h (sound-to earlier e (c .0)) in
         cons-refutes e es f (strategy-refutes (e ∷ earlier) es (cons-refutes e earlier f h) (c .1))
 
-  -- ---- the strategy that is written is allSound
+  -- ---- the strategy that is written is accepted
 
   abbrev W : ℕ → Rel
   W j = round L preorder j
@@ -205,7 +205,7 @@ module _ (L : Lts) (wf : WellFormed L) (preorder : Rel) where
         sound-all-sound earlier (e ∷ l) es (λ p q t. holds-later e l p q (c p q t)) (a .1),
       )
 
-  -- a pair that falls entriesBefore round j has its entry there
+  -- a pair that falls before round j has its entry there
   before-covers : (j i p q : ℕ) → i < j → p < L .states → q < L .states → T (refutedAt L preorder i p q) → T (holds (entriesBefore L preorder j) p q)
   unfolding entriesBefore entriesIn entryAt
   before-covers j i p q l lp lq t =

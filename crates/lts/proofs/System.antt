@@ -1,15 +1,15 @@
--- The laws of `specs/Lts.antt`: what its tests say as types.
+-- The laws of `specs/System.antt`: what its tests say as types.
 use Prim.Native.Nat.{ℕ, zero, suc, _≤_, _<_}
 use native.Mathlib.Nat.{not-suc-le-zero}
 use mathlib.Core.Logic.{_↔_}
 use mathlib.Core.Bool.{Bool, _&&_}
 use lib.Dec.{T}
 use Rattle.lts.specs.Bounded.{_⇒_, allBelow}
-use Rattle.lts.specs.System.{Set, Rel, Lts, WellFormed, allStates, anyState, allActions, anyAction, into, terminationPreorder, reflexive, transitive, within, answered, isSimulation, Relation, Simulation}
+use Rattle.lts.specs.System.{Set, Rel, Lts, WellFormed, allStates, anyState, allActions, anyAction, into, reflexive, transitive, within, answered, isSimulation, Relation, Simulation}
 use Rattle.lts.proofs.Bounded.{and-iff, imp-iff, any-iff, all-iff}
 use Rattle.lts.proofs.Refine.{Pred}
 
--- x has an a-move into X
+-- x has a transition by a into X
 abbrev pub Into : Lts → ℕ → Set → Pred
 Into L a X x = (t : ℕ) × T (L .transition x a t) × T (X t)
 
@@ -51,7 +51,7 @@ answered-iff {L} wf R p q = (λ e a t m. to e a t (wf .action p a t m) m, from)
         all-iff (L .states) (test (suc b)) .1
         (λ t _. imp-iff (L .transition p (suc b) t) (into L (suc b) (R t) q) .1 (λ m. into-from wf (suc b) (R t) q (h (suc b) t m))))
 
--- the tests of a preorder and of a isSimulation
+-- the tests of a preorder and of a simulation
 pub preorder-iff : (L : Lts) (R : Rel) → (T (reflexive L R) × T (transitive L R)) ↔ Preorder L R
 unfolding reflexive transitive allStates
 preorder-iff L R = (to, from)
@@ -93,7 +93,7 @@ within-iff L R S = (
     n : ℕ
     n = L .states
 
--- a grid that holds no pair outside the states is a isSimulation inside the preorder exactly if the two tests say so
+-- a grid that holds no pair outside the states is a simulation inside the preorder exactly if the two tests say so
 pub simulation-iff : {L : Lts} → WellFormed L → (preorder R : Rel) → ((p q : ℕ) → T (R p q) → (p < L .states) × (q < L .states))
     → (T (isSimulation L R) × T (within L R preorder)) ↔ Simulation L preorder (λ p q. T (R p q))
 unfolding isSimulation
@@ -127,11 +127,3 @@ any-state-iff L f = any-iff (L .states) f
 pub all-state-iff : (L : Lts) (f : Set) → T (allStates L f) ↔ ((p : ℕ) → p < L .states → T (f p))
 unfolding allStates
 all-state-iff L f = all-iff (L .states) f
-
--- the final preorder is a preorder
-pub end-start : (L : Lts) → Preorder L (terminationPreorder L)
-unfolding terminationPreorder
-end-start L = record {
-  loop = λ p _. imp-iff (L .terminating p) (L .terminating p) .1 (λ t. t);
-  chain = λ p q r _ _ _ u v. imp-iff (L .terminating p) (L .terminating r) .1 (λ t. imp-iff (L .terminating q) (L .terminating r) .0 v (imp-iff (L .terminating p) (L .terminating q) .0 u t));
-}

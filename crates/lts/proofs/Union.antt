@@ -1,4 +1,4 @@
--- The concatBelow lts is well formed.
+-- The disjoint union is well formed.
 use Prim.Native.Nat.{ℕ, _+_, _-_, _≤_, _<_, max}
 use native.Mathlib.Omega.{arith}
 use mathlib.Core.Bool.{Bool, true, false, cond, not, _&&_}

@@ -1,3 +1,4 @@
 pub mod Checks
 pub mod Sorted
 pub mod Writes
+pub mod Promise

@@ -7,6 +7,7 @@ ghost use Rattle.lts.specs.Table.{tableLts};
 ghost use Rattle.encoding.specs.Checked.{ReadableAs};
 ghost use Rattle.encoding.specs.Denotation.{ltsOf};
 ghost use Rattle.relation.specs.Matrix.{relationOf, Matrix};
+ghost use Rattle.strategy.specs.Demand.{Promised};
 ghost use Rattle.strategy.specs.Check.{LastPair, checkReadable, checkStrategy};
 ghost use Rattle.strategy_write.specs.Writing.{Sorted};
 ghost use Rattle.strategy.specs.Write.{writeOn, writeReadable, writeStrategy};
@@ -95,6 +96,7 @@ fn check_readable(s: &[u8], h: encoding::Header, preorder: &[u64], numbers: &[u1
 // Check plan: accepts a non-empty list of sound entries, and answers the last pair.
 pub fn check_strategy(s: &[u8], preorder: &[u64], numbers: &[u16]) -> Verdict
     ensures { λ r. ⌜ r ≡ checkStrategy (now (s .entry)) (now (preorder .entry)) (now (numbers .entry)) ⌝ }
+    ensures { λ _. ⌜ Promised (now (s .entry)) (now (preorder .entry)) ⌝ }
 {
     let reading = encoding::read_encoding(s);
     match reading {
@@ -232,6 +234,7 @@ pub fn write_strategy(
 ) -> Written
     ensures { λ r. ⌜ r ≡ writeStrategy (now (s .entry)) (now (preorder .entry)) p q (now (numbers .entry)) .answer ⌝ }
     ensures { λ r. ⌜ now (numbers .exit) ≡ writeStrategy (now (s .entry)) (now (preorder .entry)) p q (now (numbers .entry)) .numbers ⌝ }
+    ensures { λ _. ⌜ Promised (now (s .entry)) (now (preorder .entry)) ⌝ }
 {
     let reading = encoding::read_encoding(s);
     match reading {

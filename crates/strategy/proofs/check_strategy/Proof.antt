@@ -1,6 +1,7 @@
 use mathlib.Core.Path.{_∙_, sym}
 use Rattle.encoding.proofs.Reader.{readable-of}
 use Rattle.strategy.proofs.Checks.{unreadable, readable}
+use Rattle.strategy.proofs.Promise.{promised}
 use borrow.Author.Needs.{needs}
 use Rattle.strategy.proofs.check_strategy.Statement.{statement}
 use Rattle.strategy.proofs.check_strategy.Tie as tie
@@ -18,10 +19,10 @@ check-readable-requires : tie.Need-check-readable-requires
 check-readable-requires c κs = readable-of (sym (c .before .before .before .read-encoding .ensures) ∙ c .before .reading2 .given .1)
 
 returns : tie.Need-returns
-returns c = unreadable _ _ _ (sym (c .before .before .before .read-encoding .ensures) ∙ c .before .reading .given .1)
+returns c = (unreadable _ _ _ (sym (c .before .before .before .read-encoding .ensures) ∙ c .before .reading .given .1), promised _ _)
 
 returns-2 : tie.Need-returns-2
-returns-2 c = c .check-readable .ensures ∙ readable _ _ _ _ (sym (c .before .before .before .before .read-encoding .ensures) ∙ c .before .before .reading2 .given .1)
+returns-2 c = (c .check-readable .ensures ∙ readable _ _ _ _ (sym (c .before .before .before .before .read-encoding .ensures) ∙ c .before .before .reading2 .given .1), promised _ _)
 
 pub check-strategy-spec : {M : Type 1} → statement M
 check-strategy-spec =

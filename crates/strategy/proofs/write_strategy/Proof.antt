@@ -2,6 +2,7 @@ use mathlib.Core.Path.{_≡_, _∙_, sym, ap}
 use Rattle.encoding.proofs.Reader.{readable-of}
 use Rattle.strategy.specs.Write.{Outcome, refuse}
 use Rattle.strategy.proofs.Writes.{unreadable-write, readable-write}
+use Rattle.strategy.proofs.Promise.{promised}
 use borrow.Author.Needs.{needs}
 use Rattle.strategy.proofs.write_strategy.Statement.{statement}
 use Rattle.strategy.proofs.write_strategy.Tie as tie
@@ -20,14 +21,15 @@ write-readable-requires c κs = readable-of (sym (c .before .before .before .bef
 
 returns : tie.Need-returns
 unfolding refuse
-returns c = let o = unreadable-write _ _ _ _ _ (sym (c .before .before .before .read-encoding .ensures) ∙ c .before .reading .given .1) in (ap (λ (o : Outcome). o .answer) o, ap (λ (o : Outcome). o .numbers) o)
+returns c = let o = unreadable-write _ _ _ _ _ (sym (c .before .before .before .read-encoding .ensures) ∙ c .before .reading .given .1) in
+    (ap (λ (o : Outcome). o .answer) o, (ap (λ (o : Outcome). o .numbers) o, promised _ _))
 
 same-length : tie.Need-same-length
 same-length c = search needs
 
 returns-2 : tie.Need-returns-2
 returns-2 c = let o = readable-write _ _ _ _ _ _ (sym (c .before .before .before .before .before .before .before .read-encoding .ensures) ∙ c .before .before .before .before .before .reading2 .given .1) in
-    (c .before .before .write-readable .ensures .0 ∙ ap (λ (o : Outcome). o .answer) o, c .before .before .write-readable .ensures .1 ∙ ap (λ (o : Outcome). o .numbers) o)
+    (c .before .before .write-readable .ensures .0 ∙ ap (λ (o : Outcome). o .answer) o, (c .before .before .write-readable .ensures .1 ∙ ap (λ (o : Outcome). o .numbers) o, promised _ _))
 
 pub write-strategy-spec : {M : Type 1} → statement M
 write-strategy-spec =
