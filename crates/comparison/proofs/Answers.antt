@@ -1,13 +1,12 @@
 -- What compare answers by what its readings answer, and what its answers promise. Assumes nothing.
 use Prim.Native.Nat.{ℕ, _+_, _*_, _-_, _≤_, _<_}
 use native.Mathlib.Omega.{arith}
-use mathlib.Core.Path.{_≡_, refl, sym, ap, subst, _∙_}
+use mathlib.Core.Path.{_≡_, refl, sym, subst, _∙_}
 use mathlib.Core.Bool.{Bool, true, false, cond, not, _&&_}
 use mathlib.Core.List.{List, []}
 use lib.Dec.{T, leb}
-use borrow.Author.Tests.{leb-true, le-leb, lt-leb}
-use Rattle.lts.specs.System.{Rel, Lts, WellFormed, terminationPreorder}
-use Rattle.lts.specs.Refinement.{coarsest}
+use borrow.Author.Tests.{leb-true}
+use Rattle.lts.specs.System.{Rel, Lts, terminationPreorder}
 use Rattle.lts.specs.Union.{disjointUnion, comparison, simulated}
 use Rattle.lts.specs.Demand.{Demand3}
 use Rattle.lts.proofs.Comparison.{termination-tests}
@@ -22,7 +21,7 @@ use Rattle.encoding.specs.Encoding.{readEncoding}
 use Rattle.encoding.specs.Denotation.{ltsOf}
 use Rattle.encoding.proofs.Laws.{denoted}
 use Rattle.comparison.specs.declared.Compared.{Compared}
-use Rattle.comparison.specs.declared.Compared.the-variants.{Yes, No, Refused}
+use Rattle.comparison.specs.declared.Compared.the-variants.{Refused}
 use Rattle.comparison.specs.Call.{answer, fits, compareReadable, compareSecond, compareFirst, compareCall, Relates, Promised}
 
 -- ---- the answers, by the cases of the code

@@ -2,3 +2,4 @@ pub mod Append
 pub mod Join
 pub mod Runs
 pub mod Answers
+mod Cases

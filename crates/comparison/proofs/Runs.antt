@@ -1,23 +1,21 @@
 -- The run on a table from its marks' termination preorder is the run of the table's system with the marked states terminating.
 -- Assumes nothing.
 use Prim.Native.Nat.{ℕ, _+_, _*_, _/_, _<_}
-use mathlib.Core.Path.{_≡_, refl, sym, ap, ap₂, subst, subst⁻¹, _∙_}
+use mathlib.Core.Path.{_≡_, sym, ap, ap₂, subst, subst⁻¹, _∙_}
 use mathlib.Core.Bool.{Bool, true, _&&_}
-use mathlib.Core.List.{List, []}
+use mathlib.Core.List.{List}
 use lib.Dec.{T}
 use lib.ListN.{length}
-use Rattle.lts.specs.Bounded.{_⇒_, restrict}
+use Rattle.lts.specs.Bounded.{_⇒_}
 use Rattle.lts.specs.System.{Rel, Lts, terminationPreorder, allActions, into}
-use Rattle.lts.specs.Refinement.{Relations, Run, initial, run, coarsest}
+use Rattle.lts.specs.Refinement.{Run, initial, run, coarsest}
 use Rattle.lts.specs.Table.{Table, tableLts, withTerminating, markedSet}
 use Rattle.lts.specs.Union.{disjointUnion, comparison, simulated}
 use Rattle.lts.proofs.Bounded.{restrict-same}
-use Rattle.lts.proofs.System.{Preorder}
 use Rattle.lts.proofs.Comparison.{termination-preorder}
 use Rattle.lts.proofs.Table.{coarsest-terminating}
 use Rattle.relation.specs.Matrix.{rowWords, inMatrix, relationOf, matrixOf}
 use Rattle.relation.proofs.Matrices.{length-matrixOf, pair-word, relation-of, formed-of}
-use Rattle.relation.proofs.Termination.{termination-of}
 use Rattle.refinement.specs.Engine.{Start}
 use Rattle.encoding.specs.declared.Header.{Header}
 use Rattle.encoding.specs.Checked.{ReadableAs}

@@ -1,13 +1,11 @@
 -- What the functions that join two tables say of each other.
-use Prim.Native.Nat.{ℕ, _+_, _≤_, _<_, max}
+use Prim.Native.Nat.{ℕ, _+_, _<_}
 use mathlib.Core.Path.{_≡_}
 use mathlib.Core.List.{List}
 use lib.ListN.{length, getD}
 use Rattle.lts.specs.System.{Lts}
 use Rattle.lts.specs.Table.{Table, tableLts, withTerminating, markedSet}
 use Rattle.lts.specs.Union.{disjointUnion}
-use Rattle.encoding.specs.declared.Header.{Header}
-use Rattle.encoding.specs.Denotation.{ltsOf}
 
 -- the list `after` is `before` with the first `count` numbers of `from`, each raised by `shift`, from place `at` on
 pub record Appended (shift : ℕ) (from : List ℕ) (count at : ℕ) (before after : List ℕ) : Type 0 where

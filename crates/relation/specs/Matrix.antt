@@ -77,10 +77,6 @@ setRow p S R t q = cond (eqb t p) (S q) (R t q)
 abbrev pub withoutStates : ℕ → Set → Rel → Rel
 withoutStates p M R t q = R t q && not (eqb t p && M q)
 
--- R without A × M
-abbrev pub withoutProduct : Set → Set → Rel → Rel
-withoutProduct A M R t q = R t q && not (A t && M q)
-
 -- R with the rows of N in place of its first p rows
 abbrev pub rowsOf : ℕ → Rel → Rel → Rel
 rowsOf p N R t q = cond (ltb t p) (N t q) (R t q)

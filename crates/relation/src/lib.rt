@@ -7,7 +7,7 @@ ghost use lib.Dec.{eqb};
 ghost use lib.ListN.{length, drop};
 ghost use Rattle.lts.specs.Bounded.{_⇒_, anyBelow, lowest};
 ghost use Rattle.lts.specs.Table.{markedSet};
-ghost use Rattle.relation.specs.Matrix.{digit, inRow, inMatrix, wordAt, rowOf, rowWords, statesBelow, matrixOf, relationOf, Matrix, Row, pairCount, setRow, withoutStates, withoutProduct};
+ghost use Rattle.relation.specs.Matrix.{digit, inRow, inMatrix, wordAt, rowOf, rowWords, statesBelow, matrixOf, relationOf, Matrix, Row, pairCount, setRow, withoutStates};
 ghost use Rattle.relation.specs.Check.{includedBelow, withinBelow, reflexiveBelow, transitivePair, transitiveAt, transitiveBelow, clearAt, isMatrix, checkPreorder, terminationRow};
 
 // Rows: a set of states in the first words of a slice.
@@ -45,18 +45,6 @@ pub fn insert(row: &mut [u64], q: usize)
     row[c] = row[c] | (1 << (q % 64));
 }
 
-// Takes every state out of the row's first k words.
-pub fn row_clear(row: &mut [u64], k: usize)
-    requires { ⌜ k ≤ length (now row) ⌝ }
-    ensures { λ _. ⌜ now (row .exit) ≡ rowOf k (λ q. false) ++ drop k (now (row .entry)) ⌝ }
-{
-    let mut c = 0;
-    while c < k {
-        row[c] = 0;
-        c += 1;
-    }
-}
-
 // Writes the states of the first k words of `from` into the row.
 pub fn row_copy(row: &mut [u64], from: &[u64], k: usize)
     requires { ⌜ (k ≤ length (now row)) × (k ≤ length (now from)) ⌝ }
@@ -65,18 +53,6 @@ pub fn row_copy(row: &mut [u64], from: &[u64], k: usize)
     let mut c = 0;
     while c < k {
         row[c] = from[c];
-        c += 1;
-    }
-}
-
-// Puts the states of `mask` into the row's first k words.
-pub fn row_union(row: &mut [u64], mask: &[u64], k: usize)
-    requires { ⌜ (k ≤ length (now row)) × (k ≤ length (now mask)) ⌝ }
-    ensures { λ _. ⌜ now (row .exit) ≡ rowOf k (λ q. inRow (now (row .entry)) q || inRow (now (mask .entry)) q) ++ drop k (now (row .entry)) ⌝ }
-{
-    let mut c = 0;
-    while c < k {
-        row[c] = row[c] | mask[c];
         c += 1;
     }
 }
@@ -221,14 +197,6 @@ pub fn set_row(grid: &mut [u64], n: usize, p: usize, row: &[u64])
     row_copy(&mut grid[at..], row, w);
 }
 
-// Puts row q of `from` in the place of row p.
-pub fn copy_row(grid: &mut [u64], n: usize, p: usize, from: &[u64], q: usize)
-    requires { ⌜ Matrix n (now grid) × Matrix n (now from) × (n ≤ 256) × (p < n) × (q < n) ⌝ }
-    ensures { λ _. ⌜ now (grid .exit) ≡ matrixOf n (setRow p (relationOf n (now (from .entry)) q) (relationOf n (now (grid .entry)))) ⌝ }
-{
-    set_row(grid, n, p, row_at(from, n, q));
-}
-
 // Keeps only the states of `mask` in row p.
 pub fn keep_states(grid: &mut [u64], n: usize, p: usize, mask: &[u64])
     requires { ⌜ Matrix n (now grid) × (n ≤ 256) × (p < n) × (rowWords n ≤ length (now mask)) ⌝ }
@@ -247,20 +215,6 @@ pub fn remove_states(grid: &mut [u64], n: usize, p: usize, mask: &[u64])
     let w = (n + 63) / 64;
     let at = p * w;
     row_minus(&mut grid[at..], mask, w);
-}
-
-// Takes (p, q) out of the matrix for each p in `from` and q in `mask`.
-pub fn remove_product(grid: &mut [u64], n: usize, from: &[u64], mask: &[u64])
-    requires { ⌜ Matrix n (now grid) × (n ≤ 256) × (rowWords n ≤ length (now from)) × (rowWords n ≤ length (now mask)) ⌝ }
-    ensures { λ _. ⌜ now (grid .exit) ≡ matrixOf n (withoutProduct (inRow (now (from .entry))) (inRow (now (mask .entry))) (relationOf n (now (grid .entry)))) ⌝ }
-{
-    let mut p = 0;
-    while p < n {
-        if contains(from, p) {
-            remove_states(grid, n, p, mask);
-        }
-        p += 1;
-    }
 }
 
 // Whether each pair of a is in b.
@@ -304,7 +258,7 @@ pub fn is_matrix(grid: &[u64], n: usize) -> bool
 }
 
 // Whether the pair (p, p) is in the matrix for each state p.
-pub fn is_reflexive(grid: &[u64], n: usize) -> bool
+fn is_reflexive(grid: &[u64], n: usize) -> bool
     requires { ⌜ Matrix n (now grid) × (n ≤ 256) ⌝ }
     ensures { λ r. ⌜ r ≡ reflexiveBelow n (relationOf n (now (grid .entry))) ⌝ }
 {
@@ -347,7 +301,7 @@ fn transitive_at(grid: &[u64], n: usize, p: usize) -> bool
 }
 
 // The same for each p and q.
-pub fn is_transitive(grid: &[u64], n: usize) -> bool
+fn is_transitive(grid: &[u64], n: usize) -> bool
     requires { ⌜ Matrix n (now grid) × (n ≤ 256) ⌝ }
     ensures { λ r. ⌜ r ≡ transitiveBelow n (relationOf n (now (grid .entry))) ⌝ }
 {

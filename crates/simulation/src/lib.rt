@@ -86,7 +86,7 @@ fn answered_at(
 }
 
 // Whether the matrix is a simulation of the table's system.
-pub fn simulates(
+fn simulates(
     n: usize,
     m: usize,
     k: usize,

@@ -17,6 +17,13 @@ const MOST_CALLS: u64 = 1_000_000;
 
 /// The cases of the group.
 pub fn cases() -> Vec<Case> {
+    let mut cases = plays();
+    cases.extend(compares());
+    cases
+}
+
+/// The cases of hand play alone.
+pub fn plays() -> Vec<Case> {
     let mut cases = Vec::new();
     document_play(&mut cases);
     chain_play(&mut cases);
@@ -24,6 +31,12 @@ pub fn cases() -> Vec<Case> {
     random_play(&mut cases);
     telling_play(&mut cases);
     play_refusals(&mut cases);
+    cases
+}
+
+/// The cases of compare alone.
+pub fn compares() -> Vec<Case> {
+    let mut cases = Vec::new();
     document_compare(&mut cases);
     random_compare(&mut cases);
     joins(&mut cases);

@@ -2,7 +2,8 @@
 //!
 //! `cases GROUP input` writes a binary case file to standard output;
 //! `cases GROUP expected` writes the text that must be printed for it.
-//! The groups are sheets, relations, coarsest, plans and games.
+//! The groups are sheets, relations, coarsest, plans and games, whose two
+//! halves are also the groups plays and compares.
 
 mod case;
 mod coarsest;
@@ -30,6 +31,8 @@ fn group(name: &str) -> Option<Vec<Case>> {
         "coarsest" => Some(coarsest::cases()),
         "plans" => Some(plans::cases()),
         "games" => Some(games::cases()),
+        "plays" => Some(games::plays()),
+        "compares" => Some(games::compares()),
         _ => None,
     }
 }
@@ -71,7 +74,9 @@ fn main() -> ExitCode {
         _ => None,
     };
     let Some(output) = output else {
-        eprintln!("usage: cases (sheets|relations|coarsest|plans|games) (input|expected)");
+        eprintln!(
+            "usage: cases (sheets|relations|coarsest|plans|games|plays|compares) (input|expected)"
+        );
         return ExitCode::from(2);
     };
     match std::io::stdout().write_all(&output) {
@@ -142,14 +147,21 @@ mod tests {
         );
     }
 
+    const PLAYS: (u8, &[u8]) = (7, &[0, 1, 2, 3, 4, 5, 6, 8, 9, 10, 11, 12]);
+    const COMPARES: (u8, &[u8]) = (8, &[0, 1, 2, 3, 4, 5, 6, 7]);
+
     #[test]
     fn games_group() {
-        check(
-            "games",
-            &[
-                (7, &[0, 1, 2, 3, 4, 5, 6, 8, 9, 10, 11, 12]),
-                (8, &[0, 1, 2, 3, 4, 5, 6, 7]),
-            ],
-        );
+        check("games", &[PLAYS, COMPARES]);
+    }
+
+    #[test]
+    fn plays_group() {
+        check("plays", &[PLAYS]);
+    }
+
+    #[test]
+    fn compares_group() {
+        check("compares", &[COMPARES]);
     }
 }

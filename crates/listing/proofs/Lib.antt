@@ -1,0 +1,3 @@
+-- Laws that the proofs use, and computed cases.
+mod Laws
+mod Cases

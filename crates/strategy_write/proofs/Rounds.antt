@@ -1,0 +1,137 @@
+-- The entries of a round, from the matrices of two rounds. Assumes nothing.
+use Prim.Native.Nat.{ℕ, zero, suc, _+_, _*_, _≤_, _<_, suc-le-suc}
+use mathlib.Core.Path.{_≡_, refl, sym, _∙_, ap, ap₂, subst, subst⁻¹}
+use mathlib.Core.Bool.{Bool, true, false, cond, not, _&&_}
+use mathlib.Core.List.{List, [], _∷_, _++_}
+use native.Mathlib.Nat.{lt-suc-self, le-step}
+use native.Mathlib.Numerals.{add-one}
+use native.Mathlib.Omega.{arith}
+use borrow.Author.Tests.{ne-eqb}
+use lib.Dec.{eqb}
+use lib.ListN.{length, drop, length-append}
+use lib.Seq.{sets, sets-eq}
+use Rattle.lts.specs.Bounded.{restrict, concatBelow}
+use Rattle.lts.specs.System.{Rel, Lts, answered}
+use Rattle.lts.specs.Rounds.{round, refutedAt, refutationRound}
+use Rattle.lts.specs.Strategy.{Entry, numbersOf, entryAt, entriesIn, entriesBefore, strategyAt, strategy, strategyLength}
+use Rattle.lts.specs.Table.{Table, tableLts}
+use Rattle.lts.proofs.Bounded.{restrict-at, restrict-same}
+use Rattle.lts.proofs.Strategy.{strategy-count}
+use Rattle.lts.proofs.Table.{table-formed}
+use Rattle.relation.proofs.Bounded.{clash, lowest-at}
+use Rattle.relation.specs.Matrix.{relationOf, matrixOf}
+use Rattle.relation.proofs.Matrices.{relation-of, matrixOf-cong}
+use Rattle.rounds.specs.Rounds.{nextRound}
+use Rattle.rounds.proofs.Steps.{round-inside}
+use Rattle.strategy_write.specs.Writing.{Follows, entryFrom, cellEntries, rowEntries, roundEntries, previous}
+use Rattle.strategy_write.proofs.Writes.{numbers-append, length-numbers, sets-append}
+
+concat-cong : (n : ℕ) (f g : ℕ → List Entry) → ((i : ℕ) → i < n → f i ≡ g i) → concatBelow n f ≡ concatBelow n g
+unfolding concatBelow
+concat-cong zero f g h = refl
+concat-cong (suc n) f g h = ap₂ (λ (x y : List Entry). x ++ y) (concat-cong n f g (λ i l. h i (le-step l))) (h n (lt-suc-self n))
+
+module _ (n m k : ℕ) (sources actions targets : List ℕ) (preorder : Rel) where
+  abbrev L : Lts
+  L = tableLts n m k sources actions targets
+
+  -- the relation of a round's matrix
+  pub held : (j : ℕ) {g : List ℕ} → g ≡ matrixOf n (round L preorder j) → restrict n (relationOf n g) ≡ round L preorder j
+  unfolding tableLts
+  held j {g} e = restrict-same n (relationOf n g) (round L preorder j) (λ p q hp hq. relation-of n (round L preorder j) e p q hp hq) ∙ round-inside L preorder j
+
+  -- the matrix of a round is that which the next looks at
+  pub previous-next : (j : ℕ) {g : List ℕ} → g ≡ matrixOf n (round L preorder j) → g ≡ matrixOf n (previous L preorder (j + 1))
+  unfolding previous
+  previous-next j e = e ∙ ap (λ (i : ℕ). matrixOf n (previous L preorder i)) (sym (add-one j))
+
+  pub previous-first : {g : List ℕ} → g ≡ matrixOf n (λ p q. true) → g ≡ matrixOf n (previous L preorder 0)
+  unfolding previous
+  previous-first e = e
+
+  pub round-follows : (i : ℕ) {g h : List ℕ} → g ≡ matrixOf n (previous L preorder i) → h ≡ matrixOf n (round L preorder i)
+      → Follows L (eqb i 0) (restrict n (relationOf n g)) (restrict n (relationOf n h))
+  unfolding previous nextRound round
+  round-follows zero e f z = absurd (clash refl z)
+  round-follows (suc j) e f z = held (suc j) f ∙ ap (nextRound L) (sym (held j e))
+
+  pub round-entries : (i : ℕ) {g h : List ℕ} → g ≡ matrixOf n (previous L preorder i) → h ≡ matrixOf n (round L preorder i)
+      → roundEntries L (eqb i 0) (restrict n (relationOf n g)) (restrict n (relationOf n h)) ≡ entriesIn L preorder i
+  unfolding roundEntries rowEntries cellEntries entriesIn entryFrom entryAt refutedAt previous tableLts
+  round-entries zero {g} {h} e f = concat-cong n _ _ (λ p hp. concat-cong n _ _ (λ q hq.
+      ap₂ (λ (x y : Bool). cond (x && not y) (entryAt L preorder zero p q ∷ []) [])
+      (restrict-at n (relationOf n g) p q hp hq ∙ relation-of n (λ p q. true) e p q hp hq)
+      (ap (λ (W : Rel). W p q) (held zero f))))
+  round-entries (suc j) {g} {h} e f =
+      ap (λ (b : Bool). roundEntries L b (restrict n (relationOf n g)) (restrict n (relationOf n h))) (ne-eqb (suc j) 0 (λ z. omega (arith, z)))
+      ∙ ap₂ (λ (B A : Rel). roundEntries L false B A) (held j e) (held (suc j) f)
+
+  pub before-is : (j : ℕ) → concatBelow j (entriesIn L preorder) ≡ entriesBefore L preorder j
+  unfolding entriesBefore
+  before-is j = refl
+
+  -- ---- the whole strategy
+
+  module _ (ok : Table n m k sources actions targets) (p q r : ℕ) (is : r ≡ refutationRound L preorder p q) (falls : r ≤ n * n) where
+    falls-at : refutedAt L preorder r p q ≡ true
+    unfolding refutationRound tableLts
+    falls-at =
+        subst⁻¹ (λ (j : ℕ). refutedAt L preorder j p q ≡ true) is
+        (lowest-at (suc (n * n)) (λ j. refutedAt L preorder j p q) (subst (λ (j : ℕ). j < suc (n * n)) is (suc-le-suc falls)))
+
+    pub last-unanswered : {g : List ℕ} → g ≡ matrixOf n (previous L preorder r) → eqb r 0 ≡ false → answered L (restrict n (relationOf n g)) p q ≡ false
+    unfolding refutedAt round previous
+    last-unanswered {g} = go r falls-at
+      where
+        lacking : (x y : Bool) → x && not (x && y) ≡ true → y ≡ false
+        lacking true true e = absurd (clash e refl)
+        lacking true false e = refl
+        lacking false y e = absurd (clash e refl)
+
+        go : (r : ℕ) → refutedAt L preorder r p q ≡ true → g ≡ matrixOf n (previous L preorder r) → eqb r 0 ≡ false → answered L (restrict n (relationOf n g)) p q ≡ false
+        go zero t e z = absurd (clash refl z)
+        go (suc j) t e z = ap (λ (W : Rel). answered L W p q) (held j (e ∙ refl)) ∙ lacking (round L preorder j p q) (answered L (round L preorder j) p q) t
+
+    last-entry : {g : List ℕ} → g ≡ matrixOf n (previous L preorder r) → entryFrom L (eqb r 0) (restrict n (relationOf n g)) p q ≡ entryAt L preorder r p q
+    unfolding entryFrom entryAt previous
+    last-entry {g} = go r
+      where
+        go : (r : ℕ) → g ≡ matrixOf n (previous L preorder r) → entryFrom L (eqb r 0) (restrict n (relationOf n g)) p q ≡ entryAt L preorder r p q
+        go zero e = refl
+        go (suc j) e =
+            ap (λ (b : Bool). entryFrom L b (restrict n (relationOf n g)) p q) (ne-eqb (suc j) 0 (λ z. omega (arith, z)))
+            ∙ ap (λ (W : Rel). entryFrom L false W p q) (held j e)
+
+    count : length (entriesBefore L preorder r) + 1 ≡ strategyLength L preorder p q
+    unfolding strategy strategyAt
+    count =
+        ap (λ (j : ℕ). length (entriesBefore L preorder j) + 1) is
+        ∙ sym (length-append (entriesBefore L preorder (refutationRound L preorder p q)) (entryAt L preorder (refutationRound L preorder p q) p q ∷ []))
+        ∙ strategy-count L (table-formed n m k sources actions targets ok) preorder p q
+
+    pub room-before : {size : ℕ} → 4 * strategyLength L preorder p q ≤ size → 4 * length (entriesBefore L preorder r) ≤ size
+    room-before h = let c = count in omega (arith, c, h)
+
+    pub room-last : {size at : ℕ} → 4 * strategyLength L preorder p q ≤ size → at ≡ length (entriesBefore L preorder r) → 4 * (at + 1) ≤ size
+    room-last h e = let c = count in omega (arith, c, h, e)
+
+    pub strategy-written : (d : List ℕ) {g x y : List ℕ} {at : ℕ} → g ≡ matrixOf n (previous L preorder r) → 4 * strategyLength L preorder p q ≤ length d
+        → at ≡ length (entriesBefore L preorder r) → x ≡ sets d 0 (numbersOf (entriesBefore L preorder r))
+        → y ≡ sets x (4 * at) (numbersOf (entryFrom L (eqb r 0) (restrict n (relationOf n g)) p q ∷ []))
+        → y ≡ numbersOf (strategy L preorder p q) ++ drop (4 * strategyLength L preorder p q) d
+    unfolding strategy strategyAt
+    strategy-written d {g} {x} {y} {at} e room a b z =
+        let es = entriesBefore L preorder r in
+        let one = entryAt L preorder r p q ∷ [] in
+        let size = length-numbers es in
+        let place : 4 * at ≡ 0 + length (numbersOf es) = omega (arith, a, size) in
+        let whole : es ++ one ≡ strategy L preorder p q = ap (λ (j : ℕ). entriesBefore L preorder j ++ (entryAt L preorder j p q ∷ [])) is in
+        let total : length (numbersOf (strategy L preorder p q)) ≡ 4 * strategyLength L preorder p q =
+        length-numbers (strategy L preorder p q) ∙ ap (λ (c : ℕ). 4 * c) (strategy-count L (table-formed n m k sources actions targets ok) preorder p q) in
+        let fits : 0 + length (numbersOf (strategy L preorder p q)) ≤ length d = omega (arith, total, room) in
+        z ∙ ap (λ (v : Entry). sets x (4 * at) (numbersOf (v ∷ []))) (last-entry e)
+        ∙ ap₂ (λ (l : List ℕ) (i : ℕ). sets l i (numbersOf one)) b place
+        ∙ sets-append d 0 (numbersOf es) (numbersOf one)
+        ∙ ap (sets d 0) (sym (numbers-append es one) ∙ ap numbersOf whole)
+        ∙ sets-eq (numbersOf (strategy L preorder p q)) d 0 fits
+        ∙ ap (λ (i : ℕ). numbersOf (strategy L preorder p q) ++ drop i d) (let t : 0 + length (numbersOf (strategy L preorder p q)) ≡ 4 * strategyLength L preorder p q = omega (arith, total) in t)

@@ -1,0 +1,145 @@
+-- Entries written one after the other. Assumes nothing.
+use Prim.Native.Nat.{ℕ, zero, suc, _+_, _*_, _≤_, _<_, zero-le}
+use mathlib.Core.Path.{_≡_, refl, sym, _∙_, ap, subst⁻¹}
+use mathlib.Core.List.{List, [], _∷_, _++_, append-assoc}
+use mathlib.Core.Bool.{Bool, true, false, cond, not, _&&_}
+use native.Mathlib.Omega.{arith}
+use native.Mathlib.Nat.{le-refl, le-antisymm, le-suc-iff}
+use mathlib.Core.Logic.{_⊎_, inl, inr}
+use native.Mathlib.Numerals.{add-one}
+use lib.ListN.{length, getD, set, length-append}
+use lib.Seq.{sets, length-sets}
+use Rattle.lts.specs.Bounded.{concatBelow, restrict}
+use Rattle.lts.specs.Table.{tableLts}
+use Rattle.lts.proofs.Bounded.{restrict-at}
+use Rattle.lts.specs.System.{Rel, Lts, answered}
+use Rattle.lts.specs.Strategy.{Entry, numbersOf}
+use Rattle.relation.proofs.Bounded.{clash}
+use Rattle.rounds.specs.Rounds.{nextRound}
+use Rattle.strategy_write.specs.Writing.{Unanswered, Follows, entryFrom, cellEntries, rowEntries, roundEntries}
+
+pub numbers-append : (xs ys : List Entry) → numbersOf (xs ++ ys) ≡ numbersOf xs ++ numbersOf ys
+unfolding numbersOf
+numbers-append [] ys = refl
+numbers-append (x ∷ xs) ys = ap (λ (l : List ℕ). x .p ∷ x .q ∷ x .a ∷ x .t ∷ l) (numbers-append xs ys)
+
+pub length-numbers : (xs : List Entry) → length (numbersOf xs) ≡ 4 * length xs
+unfolding numbersOf
+length-numbers [] = refl
+length-numbers (x ∷ xs) = let h = length-numbers xs in omega (arith, h)
+
+pub sets-append : (l : List ℕ) (i : ℕ) (xs ys : List ℕ) → sets (sets l i xs) (i + length xs) ys ≡ sets l i (xs ++ ys)
+sets-append l i [] ys = let e : i + 0 ≡ i = omega arith in ap (λ (j : ℕ). sets l j ys) e
+sets-append l i (x ∷ xs) ys = let e : i + suc (length xs) ≡ suc i + length xs = omega arith in ap (λ (j : ℕ). sets (sets (set l i x) (suc i) xs) j ys) e ∙ sets-append (set l i x) (suc i) xs ys
+
+-- four stores
+pub put-is : (l : List ℕ) (i p q a t : ℕ) → set (set (set (set l i p) (i + 1) q) (i + 2) a) (i + 3) t ≡ sets l i (p ∷ q ∷ a ∷ t ∷ [])
+put-is l i p q a t =
+    let one : i + 1 ≡ suc i = omega arith in
+    let two : i + 2 ≡ suc (suc i) = omega arith in
+    let three : i + 3 ≡ suc (suc (suc i)) = omega arith in
+    rw (one, two, three)
+
+-- the lists f 0 .. f (c - 1) written from entry `first` on
+module _ (d : List ℕ) (first : ℕ) (f : ℕ → List Entry) where
+  abbrev pub written : ℕ → List ℕ
+  written c = sets d (4 * first) (numbersOf (concatBelow c f))
+
+  pub written-none : d ≡ written 0
+  unfolding concatBelow numbersOf
+  written-none = refl
+
+  pub at-none : first ≡ first + length (concatBelow 0 f)
+  unfolding concatBelow
+  at-none = let e : first ≡ first + 0 = omega arith in e
+
+  pub at-more : (c : ℕ) {at next : ℕ} → at ≡ first + length (concatBelow c f) → next ≡ at + length (f c) → next ≡ first + length (concatBelow (c + 1) f)
+  unfolding concatBelow
+  at-more c a b = rw (add-one, length-append) (omega (arith, a, b))
+
+  pub written-more : (c : ℕ) {at : ℕ} {now next : List ℕ} → now ≡ written c → at ≡ first + length (concatBelow c f) → next ≡ sets now (4 * at) (numbersOf (f c)) → next ≡ written (c + 1)
+  unfolding concatBelow
+  written-more c {at} {now} {next} a b e =
+      let done = concatBelow c f in
+      let size = length-numbers done in
+      let place : 4 * at ≡ 4 * first + length (numbersOf done) = omega (arith, b, size) in
+      e ∙ ap (λ (l : List ℕ). sets l (4 * at) (numbersOf (f c))) a ∙ ap (λ (j : ℕ). sets (sets d (4 * first) (numbersOf done)) j (numbersOf (f c))) place
+      ∙ sets-append d (4 * first) (numbersOf done) (numbersOf (f c)) ∙ ap (sets d (4 * first)) (sym (numbers-append done (f c))) ∙ ap written (sym (add-one c))
+
+  pub written-room : (c m : ℕ) {at : ℕ} → c < m → at ≡ first + length (concatBelow c f) → at + length (f c) ≤ first + length (concatBelow m f)
+  unfolding concatBelow
+  written-room c m h b = let l = concat-le (suc c) m h in let e = length-append (concatBelow c f) (f c) in omega (arith, b, e, l)
+    where
+      concat-le : (c m : ℕ) → c ≤ m → length (concatBelow c f) ≤ length (concatBelow m f)
+      concat-le c zero h = subst⁻¹ (λ (x : ℕ). length (concatBelow x f) ≤ length (concatBelow zero f)) (le-antisymm h zero-le) (le-refl _)
+      concat-le c (suc m) h = go (le-suc-iff .0 h) (concat-le c m)
+        where
+          go : (c ≤ m) ⊎ (c ≡ suc m) → (c ≤ m → length (concatBelow c f) ≤ length (concatBelow m f)) → length (concatBelow c f) ≤ length (concatBelow (suc m) f)
+          go (inl l) ih = let t = ih l in let e = length-append (concatBelow m f) (f m) in omega (arith, t, e)
+          go (inr e) ih = subst⁻¹ (λ (x : ℕ). length (concatBelow x f) ≤ length (concatBelow (suc m) f)) e (le-refl _)
+
+  -- there is room for the next list, and the whole at the end
+  pub room-next : (c m : ℕ) {at : ℕ} {now : List ℕ} → c < m → at ≡ first + length (concatBelow c f) → now ≡ written c → 4 * (first + length (concatBelow m f)) ≤ length d
+      → 4 * (at + length (f c)) ≤ length now
+  room-next c m {at} {now} h b e room =
+      let l = written-room c m h b in
+      let size : length now ≡ length d = ap length e ∙ length-sets d (4 * first) (numbersOf (concatBelow c f)) in
+      omega (arith, l, size, room)
+
+  pub same-size : (c : ℕ) {now : List ℕ} → now ≡ written c → length now ≡ length d
+  same-size c e = ap length e ∙ length-sets d (4 * first) (numbersOf (concatBelow c f))
+
+-- ---- one entry
+
+pub pair-first : (L : Lts) (W : Rel) (p q : ℕ) {initial : Bool} → initial ≡ true → p ∷ q ∷ 0 ∷ 0 ∷ [] ≡ numbersOf (entryFrom L initial W p q ∷ [])
+unfolding numbersOf entryFrom
+pair-first L W p q e = rw e
+
+pub pair-later : (L : Lts) (actions targets : List ℕ) (k : ℕ) (W : Rel) (p q r : ℕ) {initial : Bool} {x : ℕ} → initial ≡ false → Unanswered L actions targets k W p q r → x ≡ getD actions r 0
+    → p ∷ q ∷ x ∷ getD targets r 0 ∷ [] ≡ numbersOf (entryFrom L initial W p q ∷ [])
+unfolding numbersOf entryFrom
+pair-later L actions targets k W p q r e u x = rw (e, x, u .action, u .target)
+
+-- the entries of a pair that leaves B for A, and of one that does not
+module _ (L : Lts) (initial : Bool) (B A : Rel) (p q : ℕ) where
+  pub cell-leaves : B p q && not (A p q) ≡ true → cellEntries L initial B A p q ≡ entryFrom L initial B p q ∷ []
+  unfolding cellEntries
+  cell-leaves e = rw e
+
+  pub cell-stays : B p q && not (A p q) ≡ false → cellEntries L initial B A p q ≡ []
+  unfolding cellEntries
+  cell-stays e = rw e
+
+  pub cell-next : (at : ℕ) → B p q && not (A p q) ≡ true → at + 1 ≡ at + length (cellEntries L initial B A p q)
+  cell-next at e = ap (λ (l : List Entry). at + length l) (sym (cell-leaves e))
+
+  pub cell-none : (at : ℕ) → B p q && not (A p q) ≡ false → at ≡ at + length (cellEntries L initial B A p q)
+  cell-none at e = let zero : at ≡ at + 0 = omega arith in zero ∙ ap (λ (l : List Entry). at + length l) (sym (cell-stays e))
+
+  pub cell-empty : (d : List ℕ) (i : ℕ) → B p q && not (A p q) ≡ false → d ≡ sets d i (numbersOf (cellEntries L initial B A p q))
+  unfolding numbersOf
+  cell-empty d i e = ap (λ (l : List Entry). sets d i (numbersOf l)) (sym (cell-stays e))
+
+  -- a pair that leaves has no answer
+  pub leaves-unanswered : Follows L initial B A → B p q && not (A p q) ≡ true → initial ≡ false → answered L B p q ≡ false
+  unfolding nextRound
+  leaves-unanswered f e i = go (B p q) (answered L B p q) (ap (λ (X : Rel). B p q && not (X p q)) (sym (f i)) ∙ e)
+    where
+      go : (x y : Bool) → x && not (x && y) ≡ true → y ≡ false
+      go true true e = absurd (clash e refl)
+      go true false e = refl
+      go false y e = absurd (clash e refl)
+
+-- the test of a pair, as the matrices say it
+pub leaves-is : (n : ℕ) (R S : Rel) (p q : ℕ) {x y : Bool} → p < n → q < n → x ≡ R p q → y ≡ S p q → x && not y ≡ restrict n R p q && not (restrict n S p q)
+leaves-is n R S p q hp hq e f = rw (e, f, restrict-at n R p q hp hq, restrict-at n S p q hp hq)
+
+-- rows and rounds on a table
+module _ (n m k : ℕ) (sources actions targets : List ℕ) (initial : Bool) (B A : Rel) where
+  pub row-is : (p : ℕ) → concatBelow n (cellEntries (tableLts n m k sources actions targets) initial B A p) ≡ rowEntries (tableLts n m k sources actions targets) initial B A p
+  unfolding rowEntries tableLts
+  row-is p = refl
+
+  pub round-is : concatBelow n (rowEntries (tableLts n m k sources actions targets) initial B A) ≡ roundEntries (tableLts n m k sources actions targets) initial B A
+  unfolding roundEntries tableLts
+  round-is = refl
