@@ -5,3 +5,4 @@ mod Runs
 mod Fronts
 mod Calls
 mod Compared
+mod Strategies

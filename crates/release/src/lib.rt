@@ -9,8 +9,10 @@ ghost use Rattle.simulation.specs.Calls.{simulationCall};
 ghost use Rattle.game.specs.Play.{handPlay};
 ghost use Rattle.coarsest.specs.Call.{Promised};
 ghost use Rattle.comparison.specs.Call.{compareCall, Promised as Compares};
+ghost use Rattle.strategy.specs.Check.{checkStrategy};
+ghost use Rattle.strategy.specs.Write.{writeStrategy};
 ghost use Rattle.release.specs.Bytes.{wordsOf, namesOf, LoadedFrom};
-ghost use Rattle.release.specs.Answers.{normalisedNumber, testedNumber, playedNumber, endStart};
+ghost use Rattle.release.specs.Answers.{normalisedNumber, testedNumber, playedNumber, verdictNumber, writtenNumber, endStart};
 ghost use Rattle.release.specs.Calls.{scheduleOf, LoadedSchedule, Small, countsNumber, coarsestOnBytes, flowCoarsest, comparedNumber};
 
 // Reads the words of a grid from its bytes, into the front of words. Their number is 0 where the bytes are no grid's.
@@ -227,4 +229,39 @@ pub extern "C" fn flow_end_start(s: &[u8], grid: &mut [u8]) -> u64
     let mut words = [0u64; 1024];
     let n = load_grid(grid, &mut words);
     termination_in(s, grid, &mut words[..n])
+}
+
+// Check plan. The strategy is a slice of 16-bit numbers, of any length, and so is not carried as bytes.
+#[no_mangle]
+pub extern "C" fn flow_check_plan(s: &[u8], preorder: &[u8], numbers: &[u16]) -> u64
+    ensures { λ r. ⌜ r ≡ verdictNumber (checkStrategy (now (s .entry)) (wordsOf (now (preorder .entry))) (now (numbers .entry))) ⌝ }
+{
+    let mut words = [0u64; 1024];
+    let n = load_grid(preorder, &mut words);
+    let answer = strategy::check_strategy(s, &words[..n], numbers);
+    match answer {
+        strategy::Verdict::Refused(r) => lts::refusal_number(r),
+        strategy::Verdict::Last(p, q) => 256 * (p as u64) + 16777216 * (q as u64),
+    }
+}
+
+// Write plan, into a slice of 16-bit numbers.
+#[no_mangle]
+pub extern "C" fn flow_write_plan(
+    s: &[u8],
+    preorder: &[u8],
+    p: u64,
+    q: u64,
+    numbers: &mut [u16],
+) -> u64
+    ensures { λ r. ⌜ r ≡ writtenNumber (writeStrategy (now (s .entry)) (wordsOf (now (preorder .entry))) p q (now (numbers .entry)) .answer) ⌝ }
+    ensures { λ _. ⌜ now (numbers .exit) ≡ writeStrategy (now (s .entry)) (wordsOf (now (preorder .entry))) p q (now (numbers .entry)) .numbers ⌝ }
+{
+    let mut words = [0u64; 1024];
+    let n = load_grid(preorder, &mut words);
+    let answer = strategy::write_strategy(s, &words[..n], p as usize, q as usize, numbers);
+    match answer {
+        strategy::Written::Refused(r) => lts::refusal_number(r),
+        strategy::Written::Entries(count) => 256 * (count as u64),
+    }
 }
