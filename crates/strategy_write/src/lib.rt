@@ -226,6 +226,51 @@ fn write_row(
     at
 }
 
+// The same for row p, which is often as it was.
+fn write_changed_row(
+    n: usize,
+    m: usize,
+    k: usize,
+    sources: &[u16; 1024],
+    actions: &[u8; 1024],
+    targets: &[u16; 1024],
+    offsets: &[u16; 257],
+    before: &[u64],
+    after: &[u64],
+    initial: bool,
+    p: usize,
+    numbers: &mut [u16],
+    first: usize,
+) -> usize
+    requires { ⌜ Sorted n m k (now sources) (now actions) (now targets) (now offsets) × Matrix n (now before) × Matrix n (now after) × Follows (tableLts n m k (now sources) (now actions) (now targets)) initial (restrict n (relationOf n (now before))) (restrict n (relationOf n (now after))) × (p < n) × (4 * (first + length (rowEntries (tableLts n m k (now sources) (now actions) (now targets)) initial (restrict n (relationOf n (now before))) (restrict n (relationOf n (now after))) p)) ≤ length (now numbers)) ⌝ }
+    ensures { λ r. ⌜ r ≡ first + length (rowEntries (tableLts n m k (now (sources .entry)) (now (actions .entry)) (now (targets .entry))) initial (restrict n (relationOf n (now (before .entry)))) (restrict n (relationOf n (now (after .entry)))) p) ⌝ }
+    ensures { λ r. ⌜ now (numbers .exit) ≡ sets (now (numbers .entry)) (4 * first) (numbersOf (rowEntries (tableLts n m k (now (sources .entry)) (now (actions .entry)) (now (targets .entry))) initial (restrict n (relationOf n (now (before .entry)))) (restrict n (relationOf n (now (after .entry)))) p)) ⌝ }
+{
+    let w = (n + 63) / 64;
+    if relation::row_differs(
+        relation::row_at(before, n, p),
+        relation::row_at(after, n, p),
+        w,
+    ) {
+        return write_row(
+            n,
+            m,
+            k,
+            sources,
+            actions,
+            targets,
+            offsets,
+            before,
+            after,
+            initial,
+            p,
+            numbers,
+            first,
+        );
+    }
+    first
+}
+
 // The same for all rows.
 fn write_round(
     n: usize,
@@ -248,7 +293,7 @@ fn write_round(
     let mut at = first;
     let mut p = 0;
     while p < n {
-        at = write_row(
+        at = write_changed_row(
             n,
             m,
             k,
