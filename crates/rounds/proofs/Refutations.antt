@@ -170,9 +170,9 @@ module _ (n m k : ℕ) (sources actions targets : List ℕ) (ok : Table n m k so
   wf : WellFormed L
   wf = table-formed n m k sources actions targets ok
 
-  pub round-start : {g : List ℕ} → g ≡ matrixOf n preorder → g ≡ matrixOf n (round L preorder 0)
+  pub round-zero : {g : List ℕ} → g ≡ matrixOf n preorder → g ≡ matrixOf n (round L preorder 0)
   unfolding round tableLts
-  round-start e = e ∙ matrixOf-cong n preorder (round L preorder 0) (λ p q hp hq. sym (restrict-at n preorder p q hp hq))
+  round-zero e = e ∙ matrixOf-cong n preorder (round L preorder 0) (λ p q hp hq. sym (restrict-at n preorder p q hp hq))
 
   pub round-next : (j : ℕ) {g h : List ℕ} → g ≡ matrixOf n (round L preorder j) → h ≡ matrixOf n (nextRound L (restrict n (relationOf n g))) → h ≡ matrixOf n (round L preorder (j + 1))
   unfolding round tableLts nextRound

@@ -119,16 +119,16 @@ fn refute_in(
     sources: &[u16; 1024],
     actions: &[u8; 1024],
     targets: &[u16; 1024],
-    start: &[u64],
+    preorder: &[u64],
     current: &mut [u64],
     next: &mut [u64],
     p: usize,
     q: usize,
 ) -> Refutation
-    requires { ⌜ Table n m k (now sources) (now actions) (now targets) × Matrix n (now start) × (length (now start) ≡ length (now current)) × (length (now start) ≡ length (now next)) × (p < n) × (q < n) ⌝ }
-    ensures { λ r. ⌜ RefutationOf (tableLts n m k (now (sources .entry)) (now (actions .entry)) (now (targets .entry))) (relationOf n (now (start .entry))) p q r ⌝ }
+    requires { ⌜ Table n m k (now sources) (now actions) (now targets) × Matrix n (now preorder) × (length (now preorder) ≡ length (now current)) × (length (now preorder) ≡ length (now next)) × (p < n) × (q < n) ⌝ }
+    ensures { λ r. ⌜ RefutationOf (tableLts n m k (now (sources .entry)) (now (actions .entry)) (now (targets .entry))) (relationOf n (now (preorder .entry))) p q r ⌝ }
 {
-    relation::copy_matrix(current, start);
+    relation::copy_matrix(current, preorder);
     search_rounds(n, m, k, sources, actions, targets, current, next, p, q)
 }
 
@@ -140,14 +140,14 @@ pub fn refute(
     sources: &[u16; 1024],
     actions: &[u8; 1024],
     targets: &[u16; 1024],
-    start: &[u64],
+    preorder: &[u64],
     p: usize,
     q: usize,
 ) -> Refutation
-    requires { ⌜ Table n m k (now sources) (now actions) (now targets) × Matrix n (now start) × (p < n) × (q < n) ⌝ }
-    ensures { λ r. ⌜ RefutationOf (tableLts n m k (now (sources .entry)) (now (actions .entry)) (now (targets .entry))) (relationOf n (now (start .entry))) p q r ⌝ }
+    requires { ⌜ Table n m k (now sources) (now actions) (now targets) × Matrix n (now preorder) × (p < n) × (q < n) ⌝ }
+    ensures { λ r. ⌜ RefutationOf (tableLts n m k (now (sources .entry)) (now (actions .entry)) (now (targets .entry))) (relationOf n (now (preorder .entry))) p q r ⌝ }
 {
-    let size = start.len();
+    let size = preorder.len();
     let mut current = [0u64; 1024];
     let mut next = [0u64; 1024];
     refute_in(
@@ -157,7 +157,7 @@ pub fn refute(
         sources,
         actions,
         targets,
-        start,
+        preorder,
         &mut current[..size],
         &mut next[..size],
         p,

@@ -91,12 +91,12 @@ fn has_transition(
 }
 
 // Whether a = t = 0 and the pair (p, q) is outside the preorder.
-fn is_outside(n: usize, start: &[u64], p: usize, q: usize, a: u16, t: u16) -> bool
-    requires { ⌜ Matrix n (now start) × (n ≤ 256) × (p < n) × (q < n) ⌝ }
-    ensures { λ x. ⌜ x ≡ outside (relationOf n (now (start .entry))) p q a t ⌝ }
+fn is_outside(n: usize, preorder: &[u64], p: usize, q: usize, a: u16, t: u16) -> bool
+    requires { ⌜ Matrix n (now preorder) × (n ≤ 256) × (p < n) × (q < n) ⌝ }
+    ensures { λ x. ⌜ x ≡ outside (relationOf n (now (preorder .entry))) p q a t ⌝ }
 {
     let w = (n + 63) / 64;
-    (a == 0) & (t == 0) & !relation::has(start, w, p, q)
+    (a == 0) & (t == 0) & !relation::has(preorder, w, p, q)
 }
 
 // Whether the entry p, q, a, t is sound over the entries before number e.
@@ -108,7 +108,7 @@ fn is_sound(
     actions: &[u8; 1024],
     targets: &[u16; 1024],
     offsets: &[u16; 257],
-    start: &[u64],
+    preorder: &[u64],
     numbers: &[u16],
     e: usize,
     p: usize,
@@ -116,8 +116,8 @@ fn is_sound(
     a: u16,
     t: u16,
 ) -> bool
-    requires { ⌜ Table n m k (now sources) (now actions) (now targets) × Rows n k (now sources) (now offsets) × Matrix n (now start) × (4 * e ≤ length (now numbers)) ⌝ }
-    ensures { λ x. ⌜ x ≡ soundOver (tableLts n m k (now (sources .entry)) (now (actions .entry)) (now (targets .entry))) (relationOf n (now (start .entry))) (now (numbers .entry)) e p q a t ⌝ }
+    requires { ⌜ Table n m k (now sources) (now actions) (now targets) × Rows n k (now sources) (now offsets) × Matrix n (now preorder) × (4 * e ≤ length (now numbers)) ⌝ }
+    ensures { λ x. ⌜ x ≡ soundOver (tableLts n m k (now (sources .entry)) (now (actions .entry)) (now (targets .entry))) (relationOf n (now (preorder .entry))) (now (numbers .entry)) e p q a t ⌝ }
 {
     if n <= p {
         return false;
@@ -125,7 +125,7 @@ fn is_sound(
     if n <= q {
         return false;
     }
-    if is_outside(n, start, p, q, a, t) {
+    if is_outside(n, preorder, p, q, a, t) {
         return true;
     }
     if !has_transition(n, m, k, sources, actions, targets, offsets, p, a, t) {
@@ -156,12 +156,12 @@ fn is_sound_at(
     actions: &[u8; 1024],
     targets: &[u16; 1024],
     offsets: &[u16; 257],
-    start: &[u64],
+    preorder: &[u64],
     numbers: &[u16],
     e: usize,
 ) -> bool
-    requires { ⌜ Table n m k (now sources) (now actions) (now targets) × Rows n k (now sources) (now offsets) × Matrix n (now start) × (4 * e + 4 ≤ length (now numbers)) ⌝ }
-    ensures { λ x. ⌜ x ≡ soundAt (tableLts n m k (now (sources .entry)) (now (actions .entry)) (now (targets .entry))) (relationOf n (now (start .entry))) (now (numbers .entry)) e ⌝ }
+    requires { ⌜ Table n m k (now sources) (now actions) (now targets) × Rows n k (now sources) (now offsets) × Matrix n (now preorder) × (4 * e + 4 ≤ length (now numbers)) ⌝ }
+    ensures { λ x. ⌜ x ≡ soundAt (tableLts n m k (now (sources .entry)) (now (actions .entry)) (now (targets .entry))) (relationOf n (now (preorder .entry))) (now (numbers .entry)) e ⌝ }
 {
     let p = wide(numbers[4 * e]);
     let q = wide(numbers[4 * e + 1]);
@@ -175,7 +175,7 @@ fn is_sound_at(
         actions,
         targets,
         offsets,
-        start,
+        preorder,
         numbers,
         e,
         p,
@@ -194,11 +194,11 @@ pub fn check_table(
     actions: &[u8; 1024],
     targets: &[u16; 1024],
     offsets: &[u16; 257],
-    start: &[u64],
+    preorder: &[u64],
     numbers: &[u16],
 ) -> bool
-    requires { ⌜ Table n m k (now sources) (now actions) (now targets) × Rows n k (now sources) (now offsets) × Matrix n (now start) ⌝ }
-    ensures { λ x. ⌜ x ≡ accepted (tableLts n m k (now (sources .entry)) (now (actions .entry)) (now (targets .entry))) (relationOf n (now (start .entry))) (entriesOf (now (numbers .entry))) ⌝ }
+    requires { ⌜ Table n m k (now sources) (now actions) (now targets) × Rows n k (now sources) (now offsets) × Matrix n (now preorder) ⌝ }
+    ensures { λ x. ⌜ x ≡ accepted (tableLts n m k (now (sources .entry)) (now (actions .entry)) (now (targets .entry))) (relationOf n (now (preorder .entry))) (entriesOf (now (numbers .entry))) ⌝ }
 {
     let count = numbers.len() / 4;
     if count == 0 {
@@ -214,7 +214,7 @@ pub fn check_table(
             actions,
             targets,
             offsets,
-            start,
+            preorder,
             numbers,
             e,
         ) {

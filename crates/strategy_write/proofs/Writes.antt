@@ -1,20 +1,22 @@
 -- Entries written one after the other. Assumes nothing.
 use Prim.Native.Nat.{ℕ, zero, suc, _+_, _*_, _≤_, _<_, zero-le}
-use mathlib.Core.Path.{_≡_, refl, sym, _∙_, ap, subst⁻¹}
+use mathlib.Core.Path.{_≡_, refl, sym, _∙_, ap, ap₂, subst⁻¹}
 use mathlib.Core.List.{List, [], _∷_, _++_, append-assoc}
-use mathlib.Core.Bool.{Bool, true, false, cond, not, _&&_}
+use mathlib.Core.Bool.{Bool, true, false, cond, not, _&&_, xor}
 use native.Mathlib.Omega.{arith}
-use native.Mathlib.Nat.{le-refl, le-antisymm, le-suc-iff}
+use native.Mathlib.Nat.{le-refl, le-step, lt-suc-self, le-antisymm, le-suc-iff}
 use mathlib.Core.Logic.{_⊎_, inl, inr}
 use native.Mathlib.Numerals.{add-one}
-use lib.ListN.{length, getD, set, length-append}
+use lib.ListN.{length, getD, set, drop, length-append}
 use lib.Seq.{sets, length-sets}
-use Rattle.lts.specs.Bounded.{concatBelow, restrict}
+use Rattle.lts.specs.Bounded.{anyBelow, concatBelow, restrict}
 use Rattle.lts.specs.Table.{tableLts}
 use Rattle.lts.proofs.Bounded.{restrict-at}
 use Rattle.lts.specs.System.{Rel, Lts, answered}
 use Rattle.lts.specs.Strategy.{Entry, numbersOf}
-use Rattle.relation.proofs.Bounded.{clash}
+use Rattle.relation.specs.Matrix.{inRow, rowWords, relationOf, Matrix}
+use Rattle.relation.proofs.Bounded.{clash, any-yes}
+use Rattle.relation.proofs.Checks.{rows-differ}
 use Rattle.rounds.specs.Rounds.{nextRound}
 use Rattle.strategy_write.specs.Writing.{Unanswered, Follows, entryFrom, cellEntries, rowEntries, roundEntries}
 
@@ -143,3 +145,44 @@ module _ (n m k : ℕ) (sources actions targets : List ℕ) (initial : Bool) (B 
   pub round-is : concatBelow n (rowEntries (tableLts n m k sources actions targets) initial B A) ≡ roundEntries (tableLts n m k sources actions targets) initial B A
   unfolding roundEntries tableLts
   round-is = refl
+
+-- a row that is as it was has no entries
+module _ (n m k : ℕ) (sources actions targets : List ℕ) (initial : Bool) (g h : List ℕ) (p : ℕ) (okg : Matrix n g) (okh : Matrix n h) (hp : p < n) where
+  abbrev B : Rel
+  B = restrict n (relationOf n g)
+
+  abbrev A : Rel
+  A = restrict n (relationOf n h)
+
+  cells-none : (c : ℕ) → ((q : ℕ) → q < c → B p q && not (A p q) ≡ false) → concatBelow c (cellEntries (tableLts n m k sources actions targets) initial B A p) ≡ []
+  unfolding concatBelow
+  cells-none zero e = refl
+  cells-none (suc c) e = ap₂ (λ (x y : List Entry). x ++ y) (cells-none c (λ q l. e q (le-step l))) (cell-stays (tableLts n m k sources actions targets) initial B A p c (e c (lt-suc-self c)))
+
+  pub row-same : {x y : List ℕ} → x ≡ drop (p * rowWords n) g → y ≡ drop (p * rowWords n) h → anyBelow (rowWords n * 64) (λ q. xor (inRow x q) (inRow y q)) ≡ false
+      → rowEntries (tableLts n m k sources actions targets) initial B A p ≡ []
+  unfolding xor
+  row-same {x} {y} e f same = sym (row-is n m k sources actions targets initial B A p) ∙ cells-none n (λ q l. stays q l)
+    where
+      equal : anyBelow n (λ q. xor (relationOf n g p q) (relationOf n h p q)) ≡ false
+      equal =
+          sym (rows-differ n g h p p okg okh hp hp)
+          ∙ sym (ap₂ (λ (x y : List ℕ). anyBelow (rowWords n * 64) (λ q. xor (inRow x q) (inRow y q))) e f) ∙ same
+
+      apart : (a b : Bool) → (xor a b ≡ true) ⊎ (a && not b ≡ false)
+      apart true true = inr refl
+      apart true false = inl refl
+      apart false b = inr refl
+
+      stays : (q : ℕ) → q < n → B p q && not (A p q) ≡ false
+      stays q l = sym (leaves-is n (relationOf n g) (relationOf n h) p q hp l refl refl) ∙ go (apart (relationOf n g p q) (relationOf n h p q))
+        where
+          go : (xor (relationOf n g p q) (relationOf n h p q) ≡ true) ⊎ (relationOf n g p q && not (relationOf n h p q) ≡ false) → relationOf n g p q && not (relationOf n h p q) ≡ false
+          go (inr z) = z
+          go (inl z) = absurd (clash (sym (any-yes n (λ q. xor (relationOf n g p q) (relationOf n h p q)) q l z)) equal)
+
+pub row-skips : (d : List ℕ) (first : ℕ) {es : List Entry} → es ≡ [] → (first ≡ first + length es) × (d ≡ sets d (4 * first) (numbersOf es))
+unfolding numbersOf
+row-skips d first e =
+    let zero : first ≡ first + 0 = omega arith in
+    (zero ∙ ap (λ (l : List Entry). first + length l) (sym e), ap (λ (l : List Entry). sets d (4 * first) (numbersOf l)) (sym e))

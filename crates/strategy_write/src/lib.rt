@@ -226,6 +226,51 @@ fn write_row(
     at
 }
 
+// The same for row p, which is often as it was.
+fn write_changed_row(
+    n: usize,
+    m: usize,
+    k: usize,
+    sources: &[u16; 1024],
+    actions: &[u8; 1024],
+    targets: &[u16; 1024],
+    offsets: &[u16; 257],
+    before: &[u64],
+    after: &[u64],
+    initial: bool,
+    p: usize,
+    numbers: &mut [u16],
+    first: usize,
+) -> usize
+    requires { ⌜ Sorted n m k (now sources) (now actions) (now targets) (now offsets) × Matrix n (now before) × Matrix n (now after) × Follows (tableLts n m k (now sources) (now actions) (now targets)) initial (restrict n (relationOf n (now before))) (restrict n (relationOf n (now after))) × (p < n) × (4 * (first + length (rowEntries (tableLts n m k (now sources) (now actions) (now targets)) initial (restrict n (relationOf n (now before))) (restrict n (relationOf n (now after))) p)) ≤ length (now numbers)) ⌝ }
+    ensures { λ r. ⌜ r ≡ first + length (rowEntries (tableLts n m k (now (sources .entry)) (now (actions .entry)) (now (targets .entry))) initial (restrict n (relationOf n (now (before .entry)))) (restrict n (relationOf n (now (after .entry)))) p) ⌝ }
+    ensures { λ r. ⌜ now (numbers .exit) ≡ sets (now (numbers .entry)) (4 * first) (numbersOf (rowEntries (tableLts n m k (now (sources .entry)) (now (actions .entry)) (now (targets .entry))) initial (restrict n (relationOf n (now (before .entry)))) (restrict n (relationOf n (now (after .entry)))) p)) ⌝ }
+{
+    let w = (n + 63) / 64;
+    if relation::row_differs(
+        relation::row_at(before, n, p),
+        relation::row_at(after, n, p),
+        w,
+    ) {
+        return write_row(
+            n,
+            m,
+            k,
+            sources,
+            actions,
+            targets,
+            offsets,
+            before,
+            after,
+            initial,
+            p,
+            numbers,
+            first,
+        );
+    }
+    first
+}
+
 // The same for all rows.
 fn write_round(
     n: usize,
@@ -248,7 +293,7 @@ fn write_round(
     let mut at = first;
     let mut p = 0;
     while p < n {
-        at = write_row(
+        at = write_changed_row(
             n,
             m,
             k,
@@ -321,7 +366,7 @@ fn write_from(
     actions: &[u8; 1024],
     targets: &[u16; 1024],
     offsets: &[u16; 257],
-    start: &[u64],
+    preorder: &[u64],
     current: &mut [u64],
     next: &mut [u64],
     p: usize,
@@ -329,11 +374,11 @@ fn write_from(
     round: usize,
     numbers: &mut [u16],
 )
-    requires { ⌜ Sorted n m k (now sources) (now actions) (now targets) (now offsets) × Matrix n (now start) × (p < n) × (q < n) × (round ≡ refutationRound (tableLts n m k (now sources) (now actions) (now targets)) (relationOf n (now start)) p q) × (round ≤ n * n) × (4 * strategyLength (tableLts n m k (now sources) (now actions) (now targets)) (relationOf n (now start)) p q ≤ length (now numbers)) × (length (now current) ≡ length (now start)) × (length (now start) ≡ length (now next)) ⌝ }
-    ensures { λ _. ⌜ now (numbers .exit) ≡ numbersOf (strategy (tableLts n m k (now (sources .entry)) (now (actions .entry)) (now (targets .entry))) (relationOf n (now (start .entry))) p q) ++ drop (4 * strategyLength (tableLts n m k (now (sources .entry)) (now (actions .entry)) (now (targets .entry))) (relationOf n (now (start .entry))) p q) (now (numbers .entry)) ⌝ }
+    requires { ⌜ Sorted n m k (now sources) (now actions) (now targets) (now offsets) × Matrix n (now preorder) × (p < n) × (q < n) × (round ≡ refutationRound (tableLts n m k (now sources) (now actions) (now targets)) (relationOf n (now preorder)) p q) × (round ≤ n * n) × (4 * strategyLength (tableLts n m k (now sources) (now actions) (now targets)) (relationOf n (now preorder)) p q ≤ length (now numbers)) × (length (now current) ≡ length (now preorder)) × (length (now preorder) ≡ length (now next)) ⌝ }
+    ensures { λ _. ⌜ now (numbers .exit) ≡ numbersOf (strategy (tableLts n m k (now (sources .entry)) (now (actions .entry)) (now (targets .entry))) (relationOf n (now (preorder .entry))) p q) ++ drop (4 * strategyLength (tableLts n m k (now (sources .entry)) (now (actions .entry)) (now (targets .entry))) (relationOf n (now (preorder .entry))) p q) (now (numbers .entry)) ⌝ }
 {
     relation::write_all_pairs(n, current);
-    relation::copy_matrix(next, start);
+    relation::copy_matrix(next, preorder);
     let at = write_rounds(
         n,
         m,
@@ -373,16 +418,16 @@ pub fn write_table(
     actions: &[u8; 1024],
     targets: &[u16; 1024],
     offsets: &[u16; 257],
-    start: &[u64],
+    preorder: &[u64],
     p: usize,
     q: usize,
     round: usize,
     numbers: &mut [u16],
 )
-    requires { ⌜ Sorted n m k (now sources) (now actions) (now targets) (now offsets) × Matrix n (now start) × (p < n) × (q < n) × (round ≡ refutationRound (tableLts n m k (now sources) (now actions) (now targets)) (relationOf n (now start)) p q) × (round ≤ n * n) × (4 * strategyLength (tableLts n m k (now sources) (now actions) (now targets)) (relationOf n (now start)) p q ≤ length (now numbers)) ⌝ }
-    ensures { λ _. ⌜ now (numbers .exit) ≡ numbersOf (strategy (tableLts n m k (now (sources .entry)) (now (actions .entry)) (now (targets .entry))) (relationOf n (now (start .entry))) p q) ++ drop (4 * strategyLength (tableLts n m k (now (sources .entry)) (now (actions .entry)) (now (targets .entry))) (relationOf n (now (start .entry))) p q) (now (numbers .entry)) ⌝ }
+    requires { ⌜ Sorted n m k (now sources) (now actions) (now targets) (now offsets) × Matrix n (now preorder) × (p < n) × (q < n) × (round ≡ refutationRound (tableLts n m k (now sources) (now actions) (now targets)) (relationOf n (now preorder)) p q) × (round ≤ n * n) × (4 * strategyLength (tableLts n m k (now sources) (now actions) (now targets)) (relationOf n (now preorder)) p q ≤ length (now numbers)) ⌝ }
+    ensures { λ _. ⌜ now (numbers .exit) ≡ numbersOf (strategy (tableLts n m k (now (sources .entry)) (now (actions .entry)) (now (targets .entry))) (relationOf n (now (preorder .entry))) p q) ++ drop (4 * strategyLength (tableLts n m k (now (sources .entry)) (now (actions .entry)) (now (targets .entry))) (relationOf n (now (preorder .entry))) p q) (now (numbers .entry)) ⌝ }
 {
-    let size = start.len();
+    let size = preorder.len();
     let mut current = [0u64; 1024];
     let mut next = [0u64; 1024];
     write_from(
@@ -393,7 +438,7 @@ pub fn write_table(
         actions,
         targets,
         offsets,
-        start,
+        preorder,
         &mut current[..size],
         &mut next[..size],
         p,

@@ -9,7 +9,7 @@ use Rattle.lts.specs.Rounds.{round}
 use Rattle.lts.specs.Table.{tableLts}
 use Rattle.relation.specs.Matrix.{relationOf, matrixOf, pairCount}
 use Rattle.relation.proofs.Matrices.{matrix-relation, formed-of, length-matrixOf, pair-word}
-use Rattle.rounds.proofs.Refutations.{round-start, round-next, round-has, round-count, at-first, at-later, at-none, pairs-most, fewer, square-most, matrix-word}
+use Rattle.rounds.proofs.Refutations.{round-zero, round-next, round-has, round-count, at-first, at-later, at-none, pairs-most, fewer, square-most, matrix-word}
 use borrow.Author.Needs.{needs}
 use Rattle.rounds.proofs.search_rounds.Statement.{statement}
 use Rattle.rounds.proofs.search_rounds.Tie as tie
@@ -39,19 +39,19 @@ same-length c = search needs
 returns : tie.Need-returns Inv-loop μ-loop
 returns c = let s = c .before .before .before .before .before .before .before in
     let a = s .args in
-    let start = round-start (a .n) (a .m) (a .k) (now (a .sources)) (now (a .actions)) (now (a .targets)) (s .pre .0) (relationOf (a .n) (now (a .current))) (matrix-relation _ _ (s .pre .1) (λ i. c .before .before .before .before .before .before .slice-known .given i .fits)) in
-    at-first (a .n) (a .m) (a .k) (now (a .sources)) (now (a .actions)) (now (a .targets)) (s .pre .0) (relationOf (a .n) (now (a .current))) _ _ (sym (round-has (a .n) (a .m) (a .k) (now (a .sources)) (now (a .actions)) (now (a .targets)) (s .pre .0) (relationOf (a .n) (now (a .current))) 0 _ _ start (s .pre .3) (s .pre .4)) ∙ sym (c .before .has .ensures) ∙ not-true _ (c .if1 .taken))
+    let preorder = round-zero (a .n) (a .m) (a .k) (now (a .sources)) (now (a .actions)) (now (a .targets)) (s .pre .0) (relationOf (a .n) (now (a .current))) (matrix-relation _ _ (s .pre .1) (λ i. c .before .before .before .before .before .before .slice-known .given i .fits)) in
+    at-first (a .n) (a .m) (a .k) (now (a .sources)) (now (a .actions)) (now (a .targets)) (s .pre .0) (relationOf (a .n) (now (a .current))) _ _ (sym (round-has (a .n) (a .m) (a .k) (now (a .sources)) (now (a .actions)) (now (a .targets)) (s .pre .0) (relationOf (a .n) (now (a .current))) 0 _ _ preorder (s .pre .3) (s .pre .4)) ∙ sym (c .before .has .ensures) ∙ not-true _ (c .if1 .taken))
 
 loop-holds : tie.Need-loop-holds Inv-loop μ-loop
 loop-holds c = let s = c .before .before .before .before .before .before .before in
     let a = s .args in
-    let start = round-start (a .n) (a .m) (a .k) (now (a .sources)) (now (a .actions)) (now (a .targets)) (s .pre .0) (relationOf (a .n) (now (a .current))) (matrix-relation _ _ (s .pre .1) (λ i. c .before .before .before .before .before .before .slice-known .given i .fits)) in
-    let count = c .before .before .before .count-pairs .ensures ∙ round-count (a .n) (a .m) (a .k) (now (a .sources)) (now (a .actions)) (now (a .targets)) (s .pre .0) (relationOf (a .n) (now (a .current))) 0 start in (
+    let preorder = round-zero (a .n) (a .m) (a .k) (now (a .sources)) (now (a .actions)) (now (a .targets)) (s .pre .0) (relationOf (a .n) (now (a .current))) (matrix-relation _ _ (s .pre .1) (λ i. c .before .before .before .before .before .before .slice-known .given i .fits)) in
+    let count = c .before .before .before .count-pairs .ensures ∙ round-count (a .n) (a .m) (a .k) (now (a .sources)) (now (a .actions)) (now (a .targets)) (s .pre .0) (relationOf (a .n) (now (a .current))) 0 preorder in (
       sym (s .pre .2),
-      start,
+      preorder,
       count,
       omega (arith, count, pairs-most (a .n) (a .m) (a .k) (now (a .sources)) (now (a .actions)) (now (a .targets)) (s .pre .0) (relationOf (a .n) (now (a .current))) 0),
-      sym (round-has (a .n) (a .m) (a .k) (now (a .sources)) (now (a .actions)) (now (a .targets)) (s .pre .0) (relationOf (a .n) (now (a .current))) 0 _ _ start (s .pre .3) (s .pre .4)) ∙ sym (c .before .has .ensures) ∙ not-false _ (c .if1 .left),
+      sym (round-has (a .n) (a .m) (a .k) (now (a .sources)) (now (a .actions)) (now (a .targets)) (s .pre .0) (relationOf (a .n) (now (a .current))) 0 _ _ preorder (s .pre .3) (s .pre .4)) ∙ sym (c .before .has .ensures) ∙ not-false _ (c .if1 .left),
     )
 
 next-round-requires : tie.Need-next-round-requires Inv-loop μ-loop

@@ -16,10 +16,10 @@ use Rattle.strategy_check.proofs.check_table.Statement.{statement}
 use Rattle.strategy_check.proofs.check_table.Tie as tie
 
 abbrev Inv-loop : tie.InvT-loop
-Inv-loop n m k sources actions targets offsets start numbers count e₀ e = (count ≡ length numbers / 4) × (e ≤ count) × ((x : ℕ) → x < e → soundAt (tableLts n m k sources actions targets) (relationOf n start) numbers x ≡ true)
+Inv-loop n m k sources actions targets offsets preorder numbers count e₀ e = (count ≡ length numbers / 4) × (e ≤ count) × ((x : ℕ) → x < e → soundAt (tableLts n m k sources actions targets) (relationOf n preorder) numbers x ≡ true)
 
 abbrev μ-loop : tie.MeasureT-loop
-μ-loop n m k sources actions targets offsets start numbers count e₀ e = count - e
+μ-loop n m k sources actions targets offsets preorder numbers count e₀ e = count - e
 
 returns : tie.Need-returns Inv-loop μ-loop
 returns c = sym (accepted-none _ _ _ (c .if1 .taken))

@@ -12,7 +12,7 @@ add-w : tie.Need-add-w
 add-w c = search needs
 
 has-requires : tie.Need-has-requires
-has-requires c κs = pair-word _ (now (c .before .args .start)) (c .before .pre .2) (c .before .pre .3) (c .before .pre .0 .long)
+has-requires c κs = pair-word _ (now (c .before .args .preorder)) (c .before .pre .2) (c .before .pre .3) (c .before .pre .0 .long)
 
 returns : tie.Need-returns
 unfolding outside

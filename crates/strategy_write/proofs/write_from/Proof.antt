@@ -32,7 +32,7 @@ write-rounds-requires c κs = let s = c .before .before .before .before .before 
       s .pre .0,
       subst⁻¹ (Matrix (a .n)) copy (s .pre .1),
       c .before .before .before .before .before .before .before .before .before .write-all-pairs .ensures,
-      subst⁻¹ (λ (l : List ℕ). 4 * length (entriesBefore (tableLts (a .n) (a .m) (a .k) (now (a .sources)) (now (a .actions)) (now (a .targets))) (relationOf (a .n) l) (a .round)) ≤ length (now (a .numbers))) copy (room-before (a .n) (a .m) (a .k) (now (a .sources)) (now (a .actions)) (now (a .targets)) (relationOf (a .n) (now (a .start))) (s .pre .0 .table) (a .p) (a .q) (a .round) (s .pre .4) (s .pre .5) (s .pre .6)),
+      subst⁻¹ (λ (l : List ℕ). 4 * length (entriesBefore (tableLts (a .n) (a .m) (a .k) (now (a .sources)) (now (a .actions)) (now (a .targets))) (relationOf (a .n) l) (a .round)) ≤ length (now (a .numbers))) copy (room-before (a .n) (a .m) (a .k) (now (a .sources)) (now (a .actions)) (now (a .targets)) (relationOf (a .n) (now (a .preorder))) (s .pre .0 .table) (a .p) (a .q) (a .round) (s .pre .4) (s .pre .5) (s .pre .6)),
     )
 
 write-pair-requires : tie.Need-write-pair-requires
@@ -42,13 +42,13 @@ write-pair-requires c κs = let s = c .before .before .before .before .before .b
     let current = c .before .before .before .before .before .before .before .before .write-rounds .ensures .1 .0 ∙ ap (λ (l : List ℕ). matrixOf (a .n) (previous (tableLts (a .n) (a .m) (a .k) (now (a .sources)) (now (a .actions)) (now (a .targets))) (relationOf (a .n) l) (a .round))) copy in
     let at = c .before .before .before .before .before .before .before .before .write-rounds .ensures .0 ∙ ap (λ (l : List ℕ). length (entriesBefore (tableLts (a .n) (a .m) (a .k) (now (a .sources)) (now (a .actions)) (now (a .targets))) (relationOf (a .n) l) (a .round))) copy in
     let numbers = c .before .before .before .before .before .before .before .before .write-rounds .ensures .1 .1 ∙ ap (λ (l : List ℕ). sets (now (a .numbers)) 0 (numbersOf (entriesBefore (tableLts (a .n) (a .m) (a .k) (now (a .sources)) (now (a .actions)) (now (a .targets))) (relationOf (a .n) l) (a .round)))) copy in
-    let size = ap length numbers ∙ length-sets (now (a .numbers)) 0 (numbersOf (entriesBefore (tableLts (a .n) (a .m) (a .k) (now (a .sources)) (now (a .actions)) (now (a .targets))) (relationOf (a .n) (now (a .start))) (a .round))) in (
+    let size = ap length numbers ∙ length-sets (now (a .numbers)) 0 (numbersOf (entriesBefore (tableLts (a .n) (a .m) (a .k) (now (a .sources)) (now (a .actions)) (now (a .targets))) (relationOf (a .n) (now (a .preorder))) (a .round))) in (
       s .pre .0,
       formed-of _ _ current,
       s .pre .2,
       s .pre .3,
-      last-unanswered (a .n) (a .m) (a .k) (now (a .sources)) (now (a .actions)) (now (a .targets)) (relationOf (a .n) (now (a .start))) (s .pre .0 .table) (a .p) (a .q) (a .round) (s .pre .4) (s .pre .5) current,
-      room-last (a .n) (a .m) (a .k) (now (a .sources)) (now (a .actions)) (now (a .targets)) (relationOf (a .n) (now (a .start))) (s .pre .0 .table) (a .p) (a .q) (a .round) (s .pre .4) (s .pre .5) (subst⁻¹ (λ (x : ℕ). 4 * strategyLength (tableLts (a .n) (a .m) (a .k) (now (a .sources)) (now (a .actions)) (now (a .targets))) (relationOf (a .n) (now (a .start))) (a .p) (a .q) ≤ x) size (s .pre .6)) at,
+      last-unanswered (a .n) (a .m) (a .k) (now (a .sources)) (now (a .actions)) (now (a .targets)) (relationOf (a .n) (now (a .preorder))) (s .pre .0 .table) (a .p) (a .q) (a .round) (s .pre .4) (s .pre .5) current,
+      room-last (a .n) (a .m) (a .k) (now (a .sources)) (now (a .actions)) (now (a .targets)) (relationOf (a .n) (now (a .preorder))) (s .pre .0 .table) (a .p) (a .q) (a .round) (s .pre .4) (s .pre .5) (subst⁻¹ (λ (x : ℕ). 4 * strategyLength (tableLts (a .n) (a .m) (a .k) (now (a .sources)) (now (a .actions)) (now (a .targets))) (relationOf (a .n) (now (a .preorder))) (a .p) (a .q) ≤ x) size (s .pre .6)) at,
     )
 
 same-length : tie.Need-same-length
@@ -69,7 +69,7 @@ returns c = let s = c .before .before .before .before .before .before .before .b
     let current = c .before .before .before .before .before .before .before .before .before .before .before .write-rounds .ensures .1 .0 ∙ ap (λ (l : List ℕ). matrixOf (a .n) (previous (tableLts (a .n) (a .m) (a .k) (now (a .sources)) (now (a .actions)) (now (a .targets))) (relationOf (a .n) l) (a .round))) copy in
     let at = c .before .before .before .before .before .before .before .before .before .before .before .write-rounds .ensures .0 ∙ ap (λ (l : List ℕ). length (entriesBefore (tableLts (a .n) (a .m) (a .k) (now (a .sources)) (now (a .actions)) (now (a .targets))) (relationOf (a .n) l) (a .round))) copy in
     let numbers = c .before .before .before .before .before .before .before .before .before .before .before .write-rounds .ensures .1 .1 ∙ ap (λ (l : List ℕ). sets (now (a .numbers)) 0 (numbersOf (entriesBefore (tableLts (a .n) (a .m) (a .k) (now (a .sources)) (now (a .actions)) (now (a .targets))) (relationOf (a .n) l) (a .round)))) copy in
-    strategy-written (a .n) (a .m) (a .k) (now (a .sources)) (now (a .actions)) (now (a .targets)) (relationOf (a .n) (now (a .start))) (s .pre .0 .table) (a .p) (a .q) (a .round) (s .pre .4) (s .pre .5) (now (a .numbers)) current (s .pre .6) at numbers (c .before .before .write-pair .ensures)
+    strategy-written (a .n) (a .m) (a .k) (now (a .sources)) (now (a .actions)) (now (a .targets)) (relationOf (a .n) (now (a .preorder))) (s .pre .0 .table) (a .p) (a .q) (a .round) (s .pre .4) (s .pre .5) (now (a .numbers)) current (s .pre .6) at numbers (c .before .before .write-pair .ensures)
 
 pub write-from-spec : {M : Type 1} → statement M
 write-from-spec =

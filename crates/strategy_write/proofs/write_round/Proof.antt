@@ -26,8 +26,8 @@ loop-holds c = let s = c .before .before .before in
     let a = s .args in
     (search needs, at-none (now (a .numbers)) (a .first) (rowEntries (tableLts (a .n) (a .m) (a .k) (now (a .sources)) (now (a .actions)) (now (a .targets))) (a .initial) (restrict (a .n) (relationOf (a .n) (now (a .before)))) (restrict (a .n) (relationOf (a .n) (now (a .after))))), written-none (now (a .numbers)) (a .first) (rowEntries (tableLts (a .n) (a .m) (a .k) (now (a .sources)) (now (a .actions)) (now (a .targets))) (a .initial) (restrict (a .n) (relationOf (a .n) (now (a .before)))) (restrict (a .n) (relationOf (a .n) (now (a .after))))))
 
-write-row-requires : tie.Need-write-row-requires Inv-loop μ-loop
-write-row-requires c κs = let s = c .before .before .before .before .before .before in
+write-changed-row-requires : tie.Need-write-changed-row-requires Inv-loop μ-loop
+write-changed-row-requires c κs = let s = c .before .before .before .before .before .before in
     let a = s .args in
     let l = c .before .before .loop .inv in
     (s .pre .0, s .pre .1, s .pre .2, s .pre .3, c .before .loop-test .taken, room-next (now (a .numbers)) (a .first) (rowEntries (tableLts (a .n) (a .m) (a .k) (now (a .sources)) (now (a .actions)) (now (a .targets))) (a .initial) (restrict (a .n) (relationOf (a .n) (now (a .before)))) (restrict (a .n) (relationOf (a .n) (now (a .after))))) _ (a .n) (c .before .loop-test .taken) (l .1) (l .2) (subst⁻¹ (λ (x : List Entry). 4 * (a .first + length x) ≤ length (now (a .numbers))) (round-is (a .n) (a .m) (a .k) (now (a .sources)) (now (a .actions)) (now (a .targets)) (a .initial) (restrict (a .n) (relationOf (a .n) (now (a .before)))) (restrict (a .n) (relationOf (a .n) (now (a .after))))) (s .pre .4)))
@@ -42,7 +42,7 @@ loop-again : tie.Need-loop-again Inv-loop μ-loop
 loop-again c = let s = c .before .before .before .before .before .before .before .before .before in
     let a = s .args in
     let l = c .before .before .before .before .before .loop .inv in
-    (omega (arith, c .before .before .before .before .loop-test .taken), at-more (now (a .numbers)) (a .first) (rowEntries (tableLts (a .n) (a .m) (a .k) (now (a .sources)) (now (a .actions)) (now (a .targets))) (a .initial) (restrict (a .n) (relationOf (a .n) (now (a .before)))) (restrict (a .n) (relationOf (a .n) (now (a .after))))) _ (l .1) (c .before .before .write-row .ensures .0), written-more (now (a .numbers)) (a .first) (rowEntries (tableLts (a .n) (a .m) (a .k) (now (a .sources)) (now (a .actions)) (now (a .targets))) (a .initial) (restrict (a .n) (relationOf (a .n) (now (a .before)))) (restrict (a .n) (relationOf (a .n) (now (a .after))))) _ (l .2) (l .1) (c .before .before .write-row .ensures .1))
+    (omega (arith, c .before .before .before .before .loop-test .taken), at-more (now (a .numbers)) (a .first) (rowEntries (tableLts (a .n) (a .m) (a .k) (now (a .sources)) (now (a .actions)) (now (a .targets))) (a .initial) (restrict (a .n) (relationOf (a .n) (now (a .before)))) (restrict (a .n) (relationOf (a .n) (now (a .after))))) _ (l .1) (c .before .before .write-changed-row .ensures .0), written-more (now (a .numbers)) (a .first) (rowEntries (tableLts (a .n) (a .m) (a .k) (now (a .sources)) (now (a .actions)) (now (a .targets))) (a .initial) (restrict (a .n) (relationOf (a .n) (now (a .before)))) (restrict (a .n) (relationOf (a .n) (now (a .after))))) _ (l .2) (l .1) (c .before .before .write-changed-row .ensures .1))
 
 same-length : tie.Need-same-length Inv-loop μ-loop
 same-length c = let s = c .before .before .before .before .before in
@@ -64,7 +64,7 @@ write-round-spec =
     Inv-loop
     μ-loop
     loop-holds
-    write-row-requires
+    write-changed-row-requires
     add-p
     loop-less
     loop-again

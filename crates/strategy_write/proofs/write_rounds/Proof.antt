@@ -11,7 +11,7 @@ use Rattle.lts.specs.Strategy.{Entry, numbersOf, entriesIn}
 use Rattle.lts.specs.Table.{tableLts}
 use Rattle.relation.specs.Matrix.{relationOf, matrixOf}
 use Rattle.relation.proofs.Matrices.{matrix-relation, formed-of, length-matrixOf}
-use Rattle.rounds.proofs.Refutations.{round-start, round-next}
+use Rattle.rounds.proofs.Refutations.{round-zero, round-next}
 use Rattle.strategy_write.specs.Writing.{previous}
 use Rattle.strategy_write.proofs.Writes.{written, written-none, written-more, at-none, at-more, room-next, same-size}
 use Rattle.strategy_write.proofs.Rounds.{previous-first, previous-next, round-follows, round-entries, before-is}
@@ -28,7 +28,7 @@ abbrev μ-loop : tie.MeasureT-loop
 loop-holds : tie.Need-loop-holds Inv-loop μ-loop
 loop-holds c = let s = c .before .before .before in
     let a = s .args in
-    (search needs, previous-first (a .n) (a .m) (a .k) (now (a .sources)) (now (a .actions)) (now (a .targets)) (relationOf (a .n) (now (a .next))) (s .pre .2), round-start (a .n) (a .m) (a .k) (now (a .sources)) (now (a .actions)) (now (a .targets)) (s .pre .0 .table) (relationOf (a .n) (now (a .next))) (matrix-relation _ _ (s .pre .1) (λ j. c .before .slice-known2 .given j .fits)), at-none (now (a .numbers)) 0 (entriesIn (tableLts (a .n) (a .m) (a .k) (now (a .sources)) (now (a .actions)) (now (a .targets))) (relationOf (a .n) (now (a .next)))), written-none (now (a .numbers)) 0 (entriesIn (tableLts (a .n) (a .m) (a .k) (now (a .sources)) (now (a .actions)) (now (a .targets))) (relationOf (a .n) (now (a .next)))))
+    (search needs, previous-first (a .n) (a .m) (a .k) (now (a .sources)) (now (a .actions)) (now (a .targets)) (relationOf (a .n) (now (a .next))) (s .pre .2), round-zero (a .n) (a .m) (a .k) (now (a .sources)) (now (a .actions)) (now (a .targets)) (s .pre .0 .table) (relationOf (a .n) (now (a .next))) (matrix-relation _ _ (s .pre .1) (λ j. c .before .slice-known2 .given j .fits)), at-none (now (a .numbers)) 0 (entriesIn (tableLts (a .n) (a .m) (a .k) (now (a .sources)) (now (a .actions)) (now (a .targets))) (relationOf (a .n) (now (a .next)))), written-none (now (a .numbers)) 0 (entriesIn (tableLts (a .n) (a .m) (a .k) (now (a .sources)) (now (a .actions)) (now (a .targets))) (relationOf (a .n) (now (a .next)))))
 
 write-round-requires : tie.Need-write-round-requires Inv-loop μ-loop
 write-round-requires c κs = let s = c .before .before .before .before .before .before .before .before in
