@@ -30,24 +30,24 @@ enum-known-answer-2 c = search needs
 
 mul-result : tie.Need-mul-result
 mul-result c =
-    let b = last-few _ _ _ _ _ (sym (c .before .before .before .check-strategy .ensures) ∙ c .before .answer2 .given .1) in
+    let b = last-few _ _ _ _ _ (sym (c .before .before .before .check-strategy .ensures .0) ∙ c .before .answer2 .given .1) in
     omega (arith, b .0, b .1)
 
 mul-result-2 : tie.Need-mul-result-2
 mul-result-2 c =
-    let b = last-few _ _ _ _ _ (sym (c .before .before .before .check-strategy .ensures) ∙ c .before .answer2 .given .1) in
+    let b = last-few _ _ _ _ _ (sym (c .before .before .before .check-strategy .ensures .0) ∙ c .before .answer2 .given .1) in
     omega (arith, b .0, b .1)
 
 add-result : tie.Need-add-result
 add-result c =
-    let b = last-few _ _ _ _ _ (sym (c .before .before .before .check-strategy .ensures) ∙ c .before .answer2 .given .1) in
+    let b = last-few _ _ _ _ _ (sym (c .before .before .before .check-strategy .ensures .0) ∙ c .before .answer2 .given .1) in
     omega (arith, b .0, b .1)
 
 returns : tie.Need-returns
-returns c = rw (← c .before .before .before .before .before .before .load-grid .ensures .loaded, ← c .before .before .before .before .check-strategy .ensures, c .before .before .answer .given .1) (c .refusal-number .ensures)
+returns c = rw (← c .before .before .before .before .before .before .load-grid .ensures .loaded, ← c .before .before .before .before .check-strategy .ensures .0, c .before .before .answer .given .1) (c .refusal-number .ensures)
 
 returns-2 : tie.Need-returns-2
-returns-2 c = rw (← c .before .before .before .before .before .load-grid .ensures .loaded, ← c .before .before .before .check-strategy .ensures, c .before .answer2 .given .1)
+returns-2 c = rw (← c .before .before .before .before .before .load-grid .ensures .loaded, ← c .before .before .before .check-strategy .ensures .0, c .before .answer2 .given .1)
 
 pub flow-check-plan-spec : {M : Type 1} → statement M
 flow-check-plan-spec =

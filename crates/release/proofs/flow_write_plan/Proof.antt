@@ -38,7 +38,7 @@ returns : tie.Need-returns
 returns c =
     let l = c .before .before .before .before .before .before .before .before .before .load-grid .ensures .loaded in
     let w = c .before .before .before .before .before .before .write-strategy .ensures in
-    (rw (← l, ← w .0, c .before .before .answer .given .1) (c .refusal-number .ensures), rw (← l) (w .1))
+    (rw (← l, ← w .0, c .before .before .answer .given .1) (c .refusal-number .ensures), rw (← l) (w .1 .0))
 
 same-length-2 : tie.Need-same-length-2
 same-length-2 c = search needs
@@ -47,7 +47,7 @@ returns-2 : tie.Need-returns-2
 returns-2 c =
     let l = c .before .before .before .before .before .before .before .before .load-grid .ensures .loaded in
     let w = c .before .before .before .before .before .write-strategy .ensures in
-    (rw (← l, ← w .0, c .before .answer2 .given .1), rw (← l) (w .1))
+    (rw (← l, ← w .0, c .before .answer2 .given .1), rw (← l) (w .1 .0))
 
 pub flow-write-plan-spec : {M : Type 1} → statement M
 flow-write-plan-spec =
