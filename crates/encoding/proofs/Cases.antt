@@ -8,7 +8,8 @@ use Rattle.lts.specs.Bounded.{anyBelow, allBelow, sumBelow, countBelow, passing
 use Rattle.lts.specs.System.{Lts, allStates, anyState, allActions, anyAction, into, terminationPreorder, answered}
 use Rattle.lts.specs.Refinement.{run, step, stepOf, eachAction, chosen, pending, isRepresentative, representative, block, coarsest, initial, pairCount, blockCount, refine, split, prune, remove}
 use Rattle.lts.specs.Rounds.{round, refutedAt, refutationRound}
-use Rattle.lts.specs.Strategy.{Entry, entryAt, unanswered, entriesIn, entriesBefore, strategyAt, strategy}
+use Rattle.lts.specs.declared.Entry.{Entry}
+use Rattle.lts.specs.Strategy.{entryAt, unanswered, entriesIn, entriesBefore, strategyAt, strategy}
 use Rattle.lts.specs.Game.{defenderLoses, challengerWins}
 use Rattle.lts.specs.declared.Refusal.the-variants.{Length, Range, Chain}
 use Rattle.encoding.specs.declared.Header.{Header}

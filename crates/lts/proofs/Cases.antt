@@ -7,7 +7,8 @@ use Rattle.lts.specs.Bounded.{anyBelow, allBelow, sumBelow, countBelow, 
 use Rattle.lts.specs.System.{Lts, allStates, anyState, allActions, anyAction, into, terminationPreorder, answered}
 use Rattle.lts.specs.Refinement.{run, step, stepOf, eachAction, chosen, pending, isRepresentative, representative, block, coarsest, initial, pairCount, blockCount, refine, split, prune, remove}
 use Rattle.lts.specs.Rounds.{round, refutedAt, refutationRound}
-use Rattle.lts.specs.Strategy.{Entry, holds, sound, allSound, accepted, entryAt, unanswered, entriesIn, entriesBefore, strategyAt, strategy, numbersOf, entriesOf}
+use Rattle.lts.specs.declared.Entry.{Entry}
+use Rattle.lts.specs.Strategy.{holds, sound, allSound, accepted, entryAt, unanswered, entriesIn, entriesBefore, strategyAt, strategy, numbersOf, entriesOf}
 use Rattle.lts.specs.Game.{defenderLoses, challengerWins}
 
 -- the transitions of a list

@@ -11,7 +11,8 @@ use lib.ListN.{length, length-append}
 use Rattle.lts.specs.Bounded.{_⇒_, anyBelow, countBelow, concatBelow, lowest}
 use Rattle.lts.specs.System.{Rel, Lts, WellFormed, allStates, anyState, into, Relation, Simulation}
 use Rattle.lts.specs.Rounds.{round, refutedAt, refutationRound}
-use Rattle.lts.specs.Strategy.{Entry, holds, sound, allSound, unanswered, entryAt, entriesIn, entriesBefore, strategyAt, strategy, strategyLength, refutedCount, accepted, lastOf}
+use Rattle.lts.specs.declared.Entry.{Entry}
+use Rattle.lts.specs.Strategy.{holds, sound, allSound, unanswered, entryAt, entriesIn, entriesBefore, strategyAt, strategy, strategyLength, refutedCount, accepted, lastOf}
 use Rattle.lts.proofs.Bounded.{and-iff, not-iff, imp-iff, dec, or-elim, or-left, or-right, below-suc, any-iff}
 use Rattle.lts.proofs.Count.{lowest-passes, sum-cong, length-concat}
 use Rattle.lts.proofs.System.{into-to, into-from, any-state-iff, all-state-iff}

@@ -8,7 +8,8 @@ use native.Mathlib.Omega.{arith}
 use lib.ListN.{length, getD}
 use Rattle.lts.specs.Bounded.{listBelow}
 use Rattle.lts.specs.System.{Set, Rel, Lts, allStates}
-use Rattle.lts.specs.Strategy.{Entry, sound, allSound, accepted, entriesOf, lastOf}
+use Rattle.lts.specs.declared.Entry.{Entry}
+use Rattle.lts.specs.Strategy.{sound, allSound, accepted, entriesOf, lastOf}
 use Rattle.lts.specs.Table.{tableLts, withTerminating, markedSet}
 use Rattle.lts.specs.declared.Refusal.{Refusal}
 use Rattle.lts.specs.declared.Refusal.the-variants.{Unsound}

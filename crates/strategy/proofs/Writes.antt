@@ -10,7 +10,8 @@ use borrow.Author.Tests.{le-leb, lt-leb}
 use Rattle.lts.specs.Bounded.{sumBelow, countBelow, concatBelow, lowest}
 use Rattle.lts.specs.System.{Set, Rel, Lts, anyState, into}
 use Rattle.lts.specs.Rounds.{round, refutedAt, refutationRound}
-use Rattle.lts.specs.Strategy.{Entry, numbersOf, unanswered, entryAt, entriesIn, entriesBefore, strategyAt, strategy, refutedCount, strategyLength}
+use Rattle.lts.specs.declared.Entry.{Entry}
+use Rattle.lts.specs.Strategy.{numbersOf, unanswered, entryAt, entriesIn, entriesBefore, strategyAt, strategy, refutedCount, strategyLength}
 use Rattle.lts.specs.Table.{tableLts, withTerminating, markedSet}
 use Rattle.lts.specs.declared.Refusal.{Refusal}
 use Rattle.lts.specs.declared.Refusal.the-variants.{NoState, StillRelated, Buffer}

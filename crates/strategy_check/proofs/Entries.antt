@@ -8,7 +8,8 @@ use lib.Dec.{eqb, ltb}
 use lib.ListN.{length, getD}
 use Rattle.lts.specs.Bounded.{_⇒_, anyBelow, allBelow, listBelow}
 use Rattle.lts.specs.System.{Rel, Lts, allStates}
-use Rattle.lts.specs.Strategy.{Entry, holds, sound, allSound, accepted, entriesOf}
+use Rattle.lts.specs.declared.Entry.{Entry}
+use Rattle.lts.specs.Strategy.{holds, sound, allSound, accepted, entriesOf}
 use Rattle.strategy_check.specs.Entries.{entryOf, holdsPair, heldBefore, repliesHeld, outside, soundOver, soundAt}
 
 -- the entries f 0 .. f (e - 1), the last first, before those of `earlier`

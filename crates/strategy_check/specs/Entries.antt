@@ -6,7 +6,7 @@ use lib.Dec.{eqb, ltb}
 use lib.ListN.{getD}
 use Rattle.lts.specs.Bounded.{_⇒_, anyBelow}
 use Rattle.lts.specs.System.{Rel, Lts, allStates}
-use Rattle.lts.specs.Strategy.{Entry}
+use Rattle.lts.specs.declared.Entry.{Entry}
 
 -- entry number e of the list: four numbers, p, q, a, t
 unfoldable pub entryOf : List ℕ → ℕ → Entry

@@ -13,7 +13,8 @@ use lib.Seq.{sets, sets-eq}
 use Rattle.lts.specs.Bounded.{restrict, concatBelow}
 use Rattle.lts.specs.System.{Rel, Lts, answered}
 use Rattle.lts.specs.Rounds.{round, refutedAt, refutationRound}
-use Rattle.lts.specs.Strategy.{Entry, numbersOf, entryAt, entriesIn, entriesBefore, strategyAt, strategy, strategyLength}
+use Rattle.lts.specs.declared.Entry.{Entry}
+use Rattle.lts.specs.Strategy.{numbersOf, entryAt, entriesIn, entriesBefore, strategyAt, strategy, strategyLength}
 use Rattle.lts.specs.Table.{Table, tableLts}
 use Rattle.lts.proofs.Bounded.{restrict-at, restrict-same}
 use Rattle.lts.proofs.Strategy.{strategy-count}

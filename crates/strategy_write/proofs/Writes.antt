@@ -13,7 +13,8 @@ use Rattle.lts.specs.Bounded.{anyBelow, concatBelow, restrict}
 use Rattle.lts.specs.Table.{tableLts}
 use Rattle.lts.proofs.Bounded.{restrict-at}
 use Rattle.lts.specs.System.{Rel, Lts, answered}
-use Rattle.lts.specs.Strategy.{Entry, numbersOf}
+use Rattle.lts.specs.declared.Entry.{Entry}
+use Rattle.lts.specs.Strategy.{numbersOf}
 use Rattle.relation.specs.Matrix.{inRow, rowWords, relationOf, Matrix}
 use Rattle.relation.proofs.Bounded.{clash, any-yes}
 use Rattle.relation.proofs.Checks.{rows-differ}

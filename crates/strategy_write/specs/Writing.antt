@@ -8,7 +8,8 @@ use lib.ListN.{getD}
 use Rattle.lts.specs.Bounded.{concatBelow, lowest}
 use Rattle.lts.specs.System.{Rel, Lts, anyState, into, answered}
 use Rattle.lts.specs.Rounds.{round}
-use Rattle.lts.specs.Strategy.{Entry, unanswered}
+use Rattle.lts.specs.declared.Entry.{Entry}
+use Rattle.lts.specs.Strategy.{unanswered}
 use Rattle.lts.specs.Table.{Table, Rows}
 use Rattle.rounds.specs.Rounds.{nextRound}
 

@@ -7,7 +7,8 @@ use lib.Seq.{sets}
 use denote.Ref.{now}
 use Rattle.lts.specs.Bounded.{restrict, concatBelow}
 use Rattle.lts.specs.Rounds.{round}
-use Rattle.lts.specs.Strategy.{Entry, numbersOf, entriesIn}
+use Rattle.lts.specs.declared.Entry.{Entry}
+use Rattle.lts.specs.Strategy.{numbersOf, entriesIn}
 use Rattle.lts.specs.Table.{tableLts}
 use Rattle.relation.specs.Matrix.{relationOf, matrixOf}
 use Rattle.relation.proofs.Matrices.{matrix-relation, formed-of, length-matrixOf}
