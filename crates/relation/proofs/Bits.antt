@@ -3,10 +3,10 @@ use mathlib.Core.Path.{_≡_, refl, sym, ap, ap₂, _∙_}
 use mathlib.Core.Bool.{Bool, true, false, not, _&&_, _||_, xor}
 use mathlib.Core.Logic.{_⊎_, inl, inr}
 use Prim.Native.Nat.{ℕ, zero, suc, _+_, _-_, _*_, _/_, _%_, _^_, _≤_, _<_, suc-le-suc, min, max}
-use native.Mathlib.Nat.{not-suc-le-zero, le-of-suc-le-suc, zero-lt-suc, pow-suc, div-one, mod-lt, div-div-eq-div-mul, mul-comm, mod-eq-of-lt, sub-self, sub-zero, suc-add, add-suc, add-zero, zero-add, lt-of-lt-of-le, zero-div, one-mul}
+use native.Mathlib.Nat.{not-suc-le-zero, le-of-suc-le-suc, zero-lt-suc, pow-suc, div-one, mod-lt, div-div-eq-div-mul, div-eq-of-lt, mul-comm, mod-eq-of-lt, sub-self, sub-zero, suc-add, add-suc, add-zero, zero-add, lt-of-lt-of-le, zero-div, one-mul}
 use native.Mathlib.Omega.{arith}
 use lib.Dec.{eqb, eqb·suc-zero, eqb·zero-suc, eqb·suc-suc}
-use lib.Pow.{pow-mono, pow-pos, pow-lt}
+use lib.Pow.{pow-mono, pow-pos, pow-lt, pow-add}
 use lib.Bits.{bitAnd, bitOr, bitXor, differ, and-shr, or-shr, xor-shr, and-step, or-step, xor-step}
 use Rattle.relation.specs.Matrix.{bit, digit, wordOf}
 
@@ -36,6 +36,15 @@ bit-zero x = ap (λ (y : ℕ). eqb (y % 2) 1) (div-one x)
 pub bit-suc : (x i : ℕ) → bit x (suc i) ≡ bit (x / 2) i
 unfolding bit
 bit-suc x i = ap (λ (y : ℕ). eqb (y % 2) 1) (ap (λ (y : ℕ). x / y) (pow-suc 2 i ∙ mul-comm (2 ^ i) 2) ∙ sym (div-div-eq-div-mul x 2 (2 ^ i)))
+
+-- the bits of a number without its s lowest, and past its highest
+pub bit-shr : (x s i : ℕ) → bit (x / 2 ^ s) i ≡ bit x (s + i)
+unfolding bit
+bit-shr x s i = ap (λ (y : ℕ). eqb (y % 2) 1) (div-div-eq-div-mul x (2 ^ s) (2 ^ i) ∙ ap (λ (y : ℕ). x / y) (sym (pow-add 2 s i)))
+
+pub bit-high : (k x i : ℕ) → x < 2 ^ k → k ≤ i → bit x i ≡ false
+unfolding bit
+bit-high k x i h l = ap (λ (y : ℕ). eqb (y % 2) 1) (div-eq-of-lt (lt-of-lt-of-le h (pow-mono l)))
 
 pub digit-bit : (x : ℕ) → digit (bit x 0) ≡ x % 2
 digit-bit x = ap digit (bit-zero x) ∙ at (x % 2) (digit-cases x)

@@ -1,18 +1,19 @@
 -- Laws of sums and counts: the ones of a word are its bits, and the ones of a matrix's words its pairs. Assumes nothing.
 use mathlib.Core.Path.{_≡_, refl, sym, ap, ap₂, _∙_}
-use mathlib.Core.Bool.{Bool, true, false, not}
+use mathlib.Core.Bool.{Bool, true, false, not, true≢false}
 use mathlib.Core.List.{List}
 use mathlib.Core.Logic.{⊎-elim}
-use Prim.Native.Nat.{ℕ, zero, suc, _+_, _-_, _*_, _/_, _^_, _<_}
-use native.Mathlib.Nat.{pow-suc, add-zero, eq-or-lt-of-le}
+use Prim.Native.Nat.{ℕ, zero, suc, _+_, _-_, _*_, _/_, _%_, _^_, _<_, _≤_}
+use native.Mathlib.Nat.{pow-suc, add-zero, eq-or-lt-of-le, lt-of-le-of-lt, div-le-self}
 use native.Mathlib.Omega.{arith}
 use lib.Count.{ones, ones-step, under, trailingZeros, trailing-le}
 use lib.ListN.{getD}
-use Rattle.relation.specs.Matrix.{bit, digit, relationOf, rowWords, Matrix, pairCount}
+use Rattle.relation.specs.Matrix.{bit, digit, inRow, relationOf, rowWords, Matrix, pairCount}
 use Rattle.lts.specs.Bounded.{sumBelow, countBelow, lowest}
-use Rattle.relation.proofs.Bits.{bit-suc, digit-bit, word-ext, word-zero}
+use Rattle.relation.proofs.Bits.{bit-suc, bit-shr, bit-high, bit-of-zero, digit-bit, word-ext, word-zero}
+use Rattle.relation.proofs.Rows.{inRow-at}
 use Rattle.relation.proofs.Matrices.{inMatrix-at}
-use Rattle.relation.proofs.Bounded.{lowestStep, lowest-at, lowest-before, lowest-cong, sum-add, sum-cong, sum-cons, sum-mul, sum-zero}
+use Rattle.relation.proofs.Bounded.{lt-or-ge, lowestStep, lowest-at, lowest-before, lowest-cong, sum-add, sum-cong, sum-cons, sum-mul, sum-zero}
 
 -- ---- the ones of a word
 
@@ -67,3 +68,40 @@ trailing-at k x h = rw (trailing-lowest k x) (lowest-at k (bit x) (omega (arith,
 
 pub trailing-before : (k x i : ℕ) → i < trailingZeros k x → bit x i ≡ false
 trailing-before k x i h = lowest-before k (bit x) i (omega (arith, trailing-lowest k x))
+
+-- ---- the rest of a row's word from state q on: its bits, and its lowest one
+
+module _ (row : List ℕ) (q : ℕ) where
+  abbrev word : ℕ
+  word = getD row (q / 64) 0
+
+  abbrev pub rest : ℕ
+  rest = word / 2 ^ (q % 64)
+
+  pub rest-bit : (i : ℕ) → q % 64 + i < 64 → inRow row (q + i) ≡ bit rest i
+  rest-bit i l =
+      let split : q + i ≡ q / 64 * 64 + (q % 64 + i) = omega arith in
+      ap (inRow row) split ∙ inRow-at row (q / 64) (q % 64 + i) l ∙ sym (bit-shr word (q % 64) i)
+
+  pub rest-none : rest ≡ 0 → (i : ℕ) → q % 64 + i < 64 → inRow row (q + i) ≡ false
+  rest-none e i l = rest-bit i l ∙ ap (λ (x : ℕ). bit x i) e ∙ bit-of-zero i
+
+  module _ (fits : word < 2 ^ 64) (some : rest ≡ 0 → ⊥) where
+    abbrev zeros : ℕ
+    zeros = trailingZeros 64 rest
+
+    set : bit rest zeros ≡ true
+    set = trailing-at 64 rest (trailing-lt 64 rest (lt-of-le-of-lt (div-le-self word (2 ^ (q % 64))) fits) some)
+
+    -- the lowest one is in the word
+    pub rest-lt : q % 64 + zeros < 64
+    rest-lt =
+        ⊎-elim (λ (l : q % 64 + zeros < 64). l)
+        (λ (l : 64 ≤ q % 64 + zeros). absurd (true≢false (sym set ∙ bit-shr word (q % 64) zeros ∙ bit-high 64 word (q % 64 + zeros) fits l)))
+        (lt-or-ge (q % 64 + zeros) 64)
+
+    pub rest-at : inRow row (q + zeros) ≡ true
+    rest-at = rest-bit zeros rest-lt ∙ set
+
+    pub rest-before : (i : ℕ) → i < zeros → inRow row (q + i) ≡ false
+    rest-before i h = rest-bit i (omega (arith, rest-lt)) ∙ trailing-before 64 rest i h

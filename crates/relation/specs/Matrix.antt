@@ -1,6 +1,6 @@
 -- Sets of states as rows of 64-bit words, and relations as bit matrices of such rows (document 01, "Grids").
 use mathlib.Core.Path.{_≡_}
-use mathlib.Core.Bool.{Bool, false, cond, not, _&&_}
+use mathlib.Core.Bool.{Bool, true, false, cond, not, _&&_}
 use mathlib.Core.List.{List}
 use Prim.Native.Nat.{ℕ, zero, suc, _+_, _*_, _/_, _%_, _^_, _<_, _≤_}
 use lib.Dec.{eqb, ltb}
@@ -64,6 +64,13 @@ pub record Matrix (n : ℕ) (g : List ℕ) : Type 0 where
 pub record Row (n : ℕ) (row : List ℕ) : Type 0 where
   pub long : rowWords n ≤ length row
   pub clear : (q : ℕ) → n ≤ q → q < rowWords n * 64 → inRow row q ≡ false
+
+-- r is the lowest state of S at `from` or above, or the bound where there is none below it
+pub record Next (S : Set) (bound from r : ℕ) : Type 0 where
+  pub above : from ≤ r
+  pub below : r ≤ bound
+  pub none : (q : ℕ) → from ≤ q → q < r → S q ≡ false
+  pub member : r < bound → S r ≡ true
 
 -- how many pairs of states R has
 unfoldable pub pairCount : ℕ → Rel → ℕ

@@ -7,7 +7,7 @@ ghost use lib.Dec.{eqb};
 ghost use lib.ListN.{length, drop};
 ghost use Rattle.lts.specs.Bounded.{_⇒_, anyBelow, lowest};
 ghost use Rattle.lts.specs.Table.{markedSet};
-ghost use Rattle.relation.specs.Matrix.{digit, inRow, inMatrix, wordAt, rowOf, rowWords, statesBelow, matrixOf, relationOf, Matrix, Row, pairCount, setRow, withoutStates};
+ghost use Rattle.relation.specs.Matrix.{digit, inRow, inMatrix, wordAt, rowOf, rowWords, statesBelow, matrixOf, relationOf, Matrix, Row, pairCount, setRow, withoutStates, Next};
 ghost use Rattle.relation.specs.Check.{includedBelow, withinBelow, reflexiveBelow, transitivePair, transitiveAt, transitiveBelow, clearAt, isMatrix, checkPreorder, terminationRow};
 
 // Rows: a set of states in the first words of a slice.
@@ -34,6 +34,22 @@ pub fn lowest_state(row: &[u64], k: usize) -> usize
         c += 1;
     }
     k * 64
+}
+
+// The lowest state at `from` or above in the row's first k words, or 64 * k where there is none.
+pub fn next_state(row: &[u64], k: usize, from: usize) -> usize
+    requires { ⌜ (k ≤ length (now row)) × (k ≤ 1024) × (from ≤ k * 64) ⌝ }
+    ensures { λ r. ⌜ Next (inRow (now (row .entry))) (k * 64) from r ⌝ }
+{
+    let mut q = from;
+    while q < k * 64 {
+        let x = row[q / 64] >> (q % 64);
+        if x != 0 {
+            return q + u64::trailing_zeros(x) as usize;
+        }
+        q = (q / 64 + 1) * 64;
+    }
+    q
 }
 
 // Puts state q into a row.
@@ -77,6 +93,18 @@ pub fn row_minus(row: &mut [u64], mask: &[u64], k: usize)
     let mut c = 0;
     while c < k {
         row[c] = row[c] & !mask[c];
+        c += 1;
+    }
+}
+
+// Adds the states of `mask` to the row's first k words.
+pub fn row_union(row: &mut [u64], mask: &[u64], k: usize)
+    requires { ⌜ (k ≤ length (now row)) × (k ≤ length (now mask)) ⌝ }
+    ensures { λ _. ⌜ now (row .exit) ≡ rowOf k (λ q. inRow (now (row .entry)) q || inRow (now (mask .entry)) q) ++ drop k (now (row .entry)) ⌝ }
+{
+    let mut c = 0;
+    while c < k {
+        row[c] = row[c] | mask[c];
         c += 1;
     }
 }
