@@ -8,13 +8,13 @@ use native.Mathlib.Omega.{arith}
 use lib.ListN.{length, getD, drop, List·getD-append, length-append, length-drop}
 use lib.Pow.{pow-pos}
 use lib.Seq.{getD-drop, getD-append-add}
-use borrow.Author.Tests.{le-ltb}
+use borrow.Author.Tests.{le-ltb, lt-ltb}
 use Rattle.lts.specs.System.{Set, Rel}
-use Rattle.relation.specs.Matrix.{inRow, wordAt, rowOf, rowWords, statesBelow, relationOf, matrixOf, Matrix, setRow, withoutStates, rowsOf}
+use Rattle.relation.specs.Matrix.{inRow, wordAt, rowOf, rowWords, statesBelow, relationOf, matrixOf, Matrix, setRow, withoutStates, rowsOf, Next}
 use Rattle.relation.proofs.Bits.{bit-of-zero}
 use Rattle.relation.proofs.Bounded.{lt-or-ge, length-listBelow, getD-listBelow, list-ext}
 use Rattle.relation.proofs.Rows.{word-at, wordAt-lt, bit-wordAt}
-use Rattle.relation.proofs.Matrices.{inRow-drop, states-in, states-out, matrixOf-cong, relation-of, set-here, set-other, without-row, done-more}
+use Rattle.relation.proofs.Matrices.{inRow-drop, states-in, states-out, matrixOf-cong, relation-of, set-here, set-other, without-row, done-more, done-none}
 
 -- the words of A, written into words that are 0, are the words of S: A is S in its w words, and S has no state above them
 pub set-words : (k w : ℕ) (A S : Set) (d : List ℕ) → w ≤ k → length d ≡ k → ((j : ℕ) → getD d j 0 ≡ 0) → ((q : ℕ) → q < w * 64 → A q ≡ S q)
@@ -40,6 +40,30 @@ copied-row n p g row d small ok hp long zero at =
     ∙ ⊎-elim (λ (l : q < n). sym (states-in n (relationOf n g p) q l))
     (λ (l : n ≤ q). ok .clear p q hp l h ∙ sym (states-out n (relationOf n g p) q l)) (lt-or-ge q n))
     (λ q h. states-out n (relationOf n g p) q (omega arith))
+
+-- rows that N leaves as R has them may be passed over
+module _ (n : ℕ) (N R : Rel) (g g′ : ℕ) where
+  pub rows-skip : g ≤ g′ → ((t q : ℕ) → t < n → q < n → g ≤ t → t < g′ → R t q ≡ N t q) → matrixOf n (rowsOf g N R) ≡ matrixOf n (rowsOf g′ N R)
+  rows-skip le same = matrixOf-cong n _ _ (λ t q ht hq.
+      ⊎-elim
+      (λ (h : t < g). ap (λ (b : Bool). cond b (N t q) (R t q)) (lt-ltb t g h ∙ sym (lt-ltb t g′ (omega arith))))
+      (λ (h : g ≤ t). ap (λ (b : Bool). cond b (N t q) (R t q)) (le-ltb t g h)
+      ∙ ⊎-elim
+      (λ (l : t < g′). same t q ht hq h l ∙ sym (ap (λ (b : Bool). cond b (N t q) (R t q)) (lt-ltb t g′ l)))
+      (λ (l : g′ ≤ t). sym (ap (λ (b : Bool). cond b (N t q) (R t q)) (le-ltb t g′ l)))
+      (lt-or-ge t g′))
+      (lt-or-ge t g))
+
+  pub rows-end : n ≤ g → matrixOf n (rowsOf g N R) ≡ matrixOf n N
+  rows-end h = matrixOf-cong n _ _ (λ t q ht hq. ap (λ (b : Bool). cond b (N t q) (R t q)) (lt-ltb t g (omega arith)))
+
+-- from one row of `rows` to the next, where N has the other rows as R has them
+module _ (n : ℕ) (N R : Rel) (rows : Set) (same : (t q : ℕ) → t < n → q < n → rows t ≡ false → R t q ≡ N t q) where
+  pub rows-next : (bound g g′ : ℕ) → Next rows bound g g′ → matrixOf n (rowsOf g N R) ≡ matrixOf n (rowsOf g′ N R)
+  rows-next bound g g′ next = rows-skip n N R g g′ (next .above) (λ t q ht hq l h. same t q ht hq (next .none t l h))
+
+  pub rows-first : (bound g : ℕ) → Next rows bound 0 g → matrixOf n R ≡ matrixOf n (rowsOf g N R)
+  rows-first bound g next = done-none n N R ∙ rows-next bound 0 g next
 
 -- a matrix l that has the new rows N below g, and the rows of R from g on: what follows where row g becomes N's too
 module _ (n : ℕ) (N R : Rel) (g : ℕ) (l : List ℕ) (hg : g < n) (now : l ≡ matrixOf n (rowsOf g N R)) where

@@ -1,6 +1,7 @@
 -- The parts of one action of a refinement step, by rows.
-use Prim.Native.Nat.{ℕ}
-use mathlib.Core.Bool.{cond, not, _&&_}
+use Prim.Native.Nat.{ℕ, _<_}
+use mathlib.Core.Path.{_≡_}
+use mathlib.Core.Bool.{true, false, cond, not, _&&_}
 use Rattle.lts.specs.Bounded.{anyBelow}
 use Rattle.lts.specs.System.{Set, Rel}
 
@@ -17,3 +18,19 @@ pruneRelated n Rem Hits K P g h = K g h && not (anyBelow n (λ x. P g x && Hits 
 -- one action, by rows
 unfoldable pub refinedRelated : ℕ → Set → Set → Rel → Rel → Rel
 refinedRelated n Rem Hits K P = pruneRelated n Rem Hits (splitRelated Rem K P) (splitBlocks Rem P)
+
+-- the rows below k of the members of S lie in X
+abbrev pub Covers : ℕ → Rel → ℕ → Set → Set → Type 0
+Covers n P k S X = (x g : ℕ) → x < n → g < n → x < k → S x ≡ true → P x g ≡ true → X g ≡ true
+
+-- a block that the state of a row outside `rows` names lies in Rem, or outside
+abbrev pub Unsplit : ℕ → Rel → Set → Set → Type 0
+Unsplit n P Rem rows = (g h : ℕ) → g < n → h < n → rows g ≡ false → P g h ≡ true → Rem h ≡ Rem g
+
+-- a block that the state of a row outside `rows` names has no hit
+abbrev pub Meeting : ℕ → Rel → Set → Set → Type 0
+Meeting n P Hits rows = (g h : ℕ) → g < n → h < n → rows g ≡ false → P g h ≡ true → Hits h ≡ false
+
+-- a member of S is alone in its block
+abbrev pub Singles : ℕ → Rel → Set → Type 0
+Singles n P S = (g h : ℕ) → g < n → h < n → S g ≡ true → P g h ≡ true → h ≡ g

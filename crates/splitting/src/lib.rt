@@ -1,10 +1,10 @@
 // One action of a refinement step on bit matrices: Rem, the split of the blocks by it, and the pairs that it refutes (document 01, "Turns").
 ghost use mathlib.Core.Path.{_≡_};
-ghost use mathlib.Core.Bool.{false, cond, _&&_};
+ghost use mathlib.Core.Bool.{true, false, cond, _&&_};
 ghost use Prim.Native.Nat.{ℕ, _<_, _≤_};
 ghost use lib.ListN.{length};
 ghost use Rattle.relation.specs.Matrix.{inRow, rowOf, statesBelow, relationOf, matrixOf, Matrix, withoutStates};
-ghost use Rattle.splitting.specs.Split.{splitRelated, splitBlocks, pruneRelated};
+ghost use Rattle.splitting.specs.Split.{splitRelated, splitBlocks, pruneRelated, Covers, Unsplit, Meeting, Singles};
 
 // Row p of a matrix, as a set.
 pub fn row_set(grid: &[u64], n: usize, p: usize) -> [u64; 4]
@@ -23,13 +23,26 @@ pub fn set_views(viewed: &mut [u64], n: usize, members: &[u64; 4], row: &[u64; 4
     requires { ⌜ ((q : ℕ) → n ≤ q → q < 256 → inRow (now row) q ≡ false) ⌝ }
     ensures { λ _. ⌜ now (viewed .exit) ≡ matrixOf n (λ g h. cond (inRow (now (members .entry)) g) (inRow (now (row .entry)) h) (relationOf n (now (viewed .entry)) g h)) ⌝ }
 {
-    let mut g = 0;
+    let mut g = relation::next_state(members, 4, 0);
     while g < n {
-        if relation::contains(members, g) {
-            relation::set_row(viewed, n, g, row);
-        }
-        g += 1;
+        relation::set_row(viewed, n, g, row);
+        g = relation::next_state(members, 4, g + 1);
     }
+}
+
+// The states that share a row of a matrix with a member of the set: the union of the members' rows.
+pub fn meeting_rows(grid: &[u64], n: usize, set: &[u64]) -> [u64; 4]
+    requires { ⌜ (n ≤ 256) × Matrix n (now grid) × (4 ≤ length (now set)) ⌝ }
+    ensures { λ r. ⌜ Covers n (relationOf n (now (grid .entry))) n (inRow (now (set .entry))) (inRow r) ⌝ }
+{
+    let w = (n + 63) / 64;
+    let mut out = [0u64; 4];
+    let mut x = relation::next_state(set, 4, 0);
+    while x < n {
+        relation::row_union(&mut out, relation::row_at(grid, n, x), w);
+        x = relation::next_state(set, 4, x + 1);
+    }
+    out
 }
 
 // Drops (g, h) from K for each h of g's block in Rem.
@@ -43,47 +56,83 @@ fn split_row(related: &mut [u64], blocks: &[u64], n: usize, g: usize, rem: &[u64
     relation::remove_states(related, n, g, &gone);
 }
 
-// In each block, drops from K each (g, h) with g outside Rem and h in Rem.
-pub fn split_related(related: &mut [u64], blocks: &[u64], n: usize, rem: &[u64; 4])
+// In each block, drops from K each (g, h) with g outside Rem and h in Rem. A row that is not in `rows` has no such pair.
+pub fn split_related(related: &mut [u64], blocks: &[u64], n: usize, rem: &[u64; 4], rows: &[u64; 4])
     requires { ⌜ (n ≤ 256) × Matrix n (now related) × Matrix n (now blocks) ⌝ }
+    requires { ⌜ Unsplit n (relationOf n (now blocks)) (inRow (now rem)) (inRow (now rows)) ⌝ }
     ensures { λ _. ⌜ now (related .exit) ≡ matrixOf n (splitRelated (inRow (now (rem .entry))) (relationOf n (now (related .entry))) (relationOf n (now (blocks .entry)))) ⌝ }
 {
-    let mut g = 0;
+    let mut g = relation::next_state(rows, 4, 0);
     while g < n {
         if !relation::contains(rem, g) {
             split_row(related, blocks, n, g, rem);
         }
-        g += 1;
+        g = relation::next_state(rows, 4, g + 1);
     }
 }
 
-// Splits each block into its part in Rem and its part outside.
-pub fn split_blocks(blocks: &mut [u64], n: usize, rem: &[u64; 4])
+// Splits each block into its part in Rem and its part outside. The block of a row that is not in `rows` lies on one side.
+pub fn split_blocks(blocks: &mut [u64], n: usize, rem: &[u64; 4], rows: &[u64; 4])
     requires { ⌜ (n ≤ 256) × Matrix n (now blocks) ⌝ }
+    requires { ⌜ Unsplit n (relationOf n (now blocks)) (inRow (now rem)) (inRow (now rows)) ⌝ }
     ensures { λ _. ⌜ now (blocks .exit) ≡ matrixOf n (splitBlocks (inRow (now (rem .entry))) (relationOf n (now (blocks .entry)))) ⌝ }
 {
-    let mut g = 0;
+    let mut g = relation::next_state(rows, 4, 0);
     while g < n {
         if relation::contains(rem, g) {
             relation::keep_states(blocks, n, g, rem);
         } else {
             relation::remove_states(blocks, n, g, rem);
         }
-        g += 1;
+        g = relation::next_state(rows, 4, g + 1);
     }
 }
 
-// Drops from K each (g, h) with h in Rem and a member of g's block in `hits`.
-pub fn prune_related(related: &mut [u64], blocks: &[u64], n: usize, rem: &[u64; 4], hits: &[u64])
+// Drops from K each (g, h) with h in Rem and a member of g's block in `hits`. The block of a row that is not in `rows` has none.
+pub fn prune_related(
+    related: &mut [u64],
+    blocks: &[u64],
+    n: usize,
+    rem: &[u64; 4],
+    hits: &[u64],
+    rows: &[u64; 4],
+)
     requires { ⌜ (n ≤ 256) × Matrix n (now related) × Matrix n (now blocks) × (4 ≤ length (now hits)) ⌝ }
+    requires { ⌜ Meeting n (relationOf n (now blocks)) (inRow (now hits)) (inRow (now rows)) ⌝ }
     ensures { λ _. ⌜ now (related .exit) ≡ matrixOf n (pruneRelated n (inRow (now (rem .entry))) (inRow (now (hits .entry))) (relationOf n (now (related .entry))) (relationOf n (now (blocks .entry)))) ⌝ }
 {
     let w = (n + 63) / 64;
-    let mut g = 0;
+    let mut g = relation::next_state(rows, 4, 0);
     while g < n {
         if relation::row_meets(relation::row_at(blocks, n, g), hits, w) {
             relation::remove_states(related, n, g, rem);
         }
-        g += 1;
+        g = relation::next_state(rows, 4, g + 1);
     }
+}
+
+// Whether g is the one member of its row.
+fn is_single(grid: &[u64], n: usize, g: usize) -> bool
+    requires { ⌜ (n ≤ 256) × Matrix n (now grid) × (g < n) ⌝ }
+    ensures { λ r. ⌜ (r ≡ true → (h : ℕ) → h < n → relationOf n (now (grid .entry)) g h ≡ true → h ≡ g) ⌝ }
+{
+    let w = (n + 63) / 64;
+    let row = relation::row_at(grid, n, g);
+    (relation::next_state(row, w, 0) == g) & (n <= relation::next_state(row, w, g + 1))
+}
+
+// The states of `rows` that are alone in their block.
+pub fn single_rows(blocks: &[u64], n: usize, rows: &[u64; 4]) -> [u64; 4]
+    requires { ⌜ (n ≤ 256) × Matrix n (now blocks) ⌝ }
+    ensures { λ r. ⌜ Singles n (relationOf n (now (blocks .entry))) (inRow r) ⌝ }
+{
+    let mut out = [0u64; 4];
+    let mut g = relation::next_state(rows, 4, 0);
+    while g < n {
+        if is_single(blocks, n, g) {
+            relation::insert(&mut out, g);
+        }
+        g = relation::next_state(rows, 4, g + 1);
+    }
+    out
 }

@@ -1,67 +1,93 @@
-use mathlib.Core.Path.{_≡_, sym, ap, _∙_}
+use mathlib.Core.Path.{_≡_, refl, sym, ap, _∙_}
 use mathlib.Core.Logic.{⊎-elim}
-use mathlib.Core.Bool.{Bool, not, _&&_, cond}
-use Prim.Native.Nat.{_≤_, _<_, _-_}
+use mathlib.Core.Bool.{Bool, true, false, cond, not, _&&_}
+use Prim.Native.Nat.{ℕ, _≤_, _<_, _-_}
 use native.Mathlib.Omega.{arith}
 use lib.ListN.{length}
 use denote.Ref.{now}
+use Rattle.lts.specs.System.{Set, Rel}
 use Rattle.relation.specs.Matrix.{inRow, relationOf, matrixOf, rowsOf}
-use Rattle.relation.proofs.Matrices.{length-matrixOf, matrix-relation, formed-of, done-none, done-all}
+use Rattle.relation.proofs.Matrices.{length-matrixOf, matrix-relation, formed-of}
 use Rattle.splitting.specs.Split.{splitBlocks}
-use Rattle.splitting.proofs.Rows.{row-kept, row-without}
+use Rattle.splitting.proofs.Rows.{row-kept, row-without, rows-next, rows-first, rows-end}
 use borrow.Author.Needs.{needs}
 use Rattle.splitting.proofs.split_blocks.Statement.{statement}
 use Rattle.splitting.proofs.split_blocks.Tie as tie
 
+-- a block that lies on one side
+unsplit : (Rem : Set) (P : Rel) (g q : ℕ) → (P g q ≡ true → Rem q ≡ Rem g) → P g q ≡ splitBlocks Rem P g q
+unfolding splitBlocks
+unsplit Rem P g q same = go (P g q) (Rem g) (Rem q) same
+  where
+    go : (p rg rq : Bool) → (p ≡ true → rq ≡ rg) → p ≡ p && cond rg rq (not rq)
+    go false rg rq s = refl
+    go true true rq s = sym (s refl)
+    go true false rq s = sym (ap not (s refl))
+
 abbrev Inv-loop : tie.InvT-loop
-Inv-loop blocks₀ n rem g₀ blocks g = (g ≤ n) × (blocks ≡ matrixOf n (rowsOf g (splitBlocks (inRow rem) (relationOf n blocks₀)) (relationOf n blocks₀)))
+Inv-loop blocks₀ n rem rows g₀ blocks g = blocks ≡ matrixOf n (rowsOf g (splitBlocks (inRow rem) (relationOf n blocks₀)) (relationOf n blocks₀))
 
 abbrev μ-loop : tie.MeasureT-loop
-μ-loop blocks₀ n rem g₀ blocks g = n - g
+μ-loop blocks₀ n rem rows g₀ blocks g = n - g
+
+next-state-requires : tie.Need-next-state-requires Inv-loop μ-loop
+next-state-requires c κs = search needs
 
 loop-holds : tie.Need-loop-holds Inv-loop μ-loop
-loop-holds c = (search needs, matrix-relation _ _ (c .before .pre .1) (λ j. c .slice-known .given j .fits) ∙ done-none _ _ _)
+loop-holds c =
+    let start = c .before .before .before in
+    let n = start .args .n in
+    let Rem = inRow (now (start .args .rem)) in
+    let P = relationOf n (now (start .args .blocks)) in
+    matrix-relation _ _ (start .pre .0 .1) (λ j. c .before .before .slice-known .given j .fits)
+    ∙ rows-first n (splitBlocks Rem P) P (inRow (now (start .args .rows))) (λ t q ht hq e. unsplit Rem P t q (start .pre .1 t q ht hq e)) _ _ (c .next-state .ensures)
 
 contains-requires : tie.Need-contains-requires Inv-loop μ-loop
 contains-requires c κs = search needs
 
 keep-states-requires : tie.Need-keep-states-requires Inv-loop μ-loop
-keep-states-requires c κs = let at = c .before .before .before .before .before .before in
-    let start = at .before .before in
-    (formed-of _ _ (at .loop .inv .1), start .pre .0, omega arith, search needs)
+keep-states-requires c κs =
+    let at = c .before .before .before .before .before .before in
+    let start = at .before .before .before .before in
+    (formed-of _ _ (at .loop .inv), start .pre .0 .0, search needs, search needs)
 
 remove-states-requires : tie.Need-remove-states-requires Inv-loop μ-loop
-remove-states-requires c κs = let at = c .before .before .before .before .before .before in
-    let start = at .before .before in
-    (formed-of _ _ (at .loop .inv .1), start .pre .0, omega arith, search needs)
+remove-states-requires c κs =
+    let at = c .before .before .before .before .before .before in
+    let start = at .before .before .before .before in
+    (formed-of _ _ (at .loop .inv), start .pre .0 .0, search needs, search needs)
 
-add-g : tie.Need-add-g Inv-loop μ-loop
-add-g c = search needs
+add-next-state : tie.Need-add-next-state Inv-loop μ-loop
+add-next-state c = search needs
+
+next-state-requires-2 : tie.Need-next-state-requires-2 Inv-loop μ-loop
+next-state-requires-2 c κs = search needs
 
 loop-less : tie.Need-loop-less Inv-loop μ-loop
 loop-less c = search needs
 
 loop-again : tie.Need-loop-again Inv-loop μ-loop
 unfolding splitBlocks
-loop-again c = let at = c .before .before .before .before in
-    let a = at .before .before .args in
+loop-again c =
+    let at = c .before .before .before .before .before .before in
+    let start = at .before .before .before .before in
+    let a = start .args in
     let n = a .n in
     let Rem = inRow (now (a .rem)) in
     let P = relationOf n (now (a .blocks)) in
     let g = at .loop .g in
-    let hg : g < n = c .before .before .before .loop-test .taken in (
-      search needs,
-      ⊎-elim
-          (λ w. w .6 ∙ w .3 .ensures ∙ row-kept n (splitBlocks Rem P) P g (at .loop .blocks) hg (at .loop .inv .1) Rem (λ q hq. sym (ap (λ (b : Bool). P g q && cond b (Rem q) (not (Rem q))) (sym (c .before .contains .ensures) ∙ w .0 .taken))))
-          (λ w. w .6 ∙ w .3 .ensures ∙ row-without n (splitBlocks Rem P) P g (at .loop .blocks) hg (at .loop .inv .1) Rem (λ q hq. sym (ap (λ (b : Bool). P g q && cond b (Rem q) (not (Rem q))) (sym (c .before .contains .ensures) ∙ w .0 .left))))
-          (c .if1 .came),
-    )
+    let hg : g < n = c .before .before .before .before .before .loop-test .taken in
+    ⊎-elim
+    (λ w. w .6 ∙ w .3 .ensures ∙ row-kept n (splitBlocks Rem P) P g (at .loop .blocks) hg (at .loop .inv) Rem (λ q hq. sym (ap (λ (b : Bool). P g q && cond b (Rem q) (not (Rem q))) (sym (c .before .before .before .contains .ensures) ∙ w .0 .taken))))
+    (λ w. w .6 ∙ w .3 .ensures ∙ row-without n (splitBlocks Rem P) P g (at .loop .blocks) hg (at .loop .inv) Rem (λ q hq. sym (ap (λ (b : Bool). P g q && cond b (Rem q) (not (Rem q))) (sym (c .before .before .before .contains .ensures) ∙ w .0 .left))))
+    (c .before .before .if1 .came)
+    ∙ rows-next n (splitBlocks Rem P) P (inRow (now (a .rows))) (λ t q ht hq e. unsplit Rem P t q (start .pre .1 t q ht hq e)) _ _ _ (c .next-state2 .ensures)
 
 same-length : tie.Need-same-length Inv-loop μ-loop
-same-length c = ap length (c .before .loop .inv .1) ∙ length-matrixOf _ _ ∙ sym (c .before .before .before .pre .1 .long)
+same-length c = ap length (c .before .loop .inv) ∙ length-matrixOf _ _ ∙ sym (c .before .before .before .before .before .pre .0 .1 .long)
 
 returns : tie.Need-returns Inv-loop μ-loop
-returns c = c .before .loop .inv .1 ∙ done-all _ _ _ _ (omega arith)
+returns c = c .before .loop .inv ∙ rows-end _ _ _ _ 0 (search needs)
 
 pub split-blocks-spec : {M : Type 1} → statement M
 split-blocks-spec =
@@ -69,11 +95,13 @@ split-blocks-spec =
     (tie.spec
     Inv-loop
     μ-loop
+    next-state-requires
     loop-holds
     contains-requires
     keep-states-requires
     remove-states-requires
-    add-g
+    add-next-state
+    next-state-requires-2
     loop-less
     loop-again
     same-length
