@@ -34,3 +34,9 @@ Meeting n P Hits rows = (g h : ℕ) → g < n → h < n → rows g ≡ false →
 -- a member of S is alone in its block
 abbrev pub Singles : ℕ → Rel → Set → Type 0
 Singles n P S = (g h : ℕ) → g < n → h < n → S g ≡ true → P g h ≡ true → h ≡ g
+
+-- P is the relation of blocks: symmetric and reflexive, and a state outside `shared` is alone in its block
+pub record Parted (n : ℕ) (P : Rel) (shared : Set) : Type 0 where
+  pub sym : (g h : ℕ) → g < n → h < n → P g h ≡ true → P h g ≡ true
+  pub loop : (g : ℕ) → g < n → P g g ≡ true
+  pub single : (g h : ℕ) → g < n → h < n → shared g ≡ false → P g h ≡ true → h ≡ g

@@ -9,11 +9,11 @@ use denote.Ref.{now}
 use Rattle.lts.specs.Bounded.{anyBelow}
 use Rattle.lts.specs.System.{Set, Rel}
 use Rattle.relation.specs.Matrix.{inRow, rowWords, relationOf, matrixOf, rowsOf}
-use Rattle.relation.proofs.Bounded.{any-no}
 use Rattle.relation.proofs.Matrices.{row-long, length-matrixOf, matrix-relation, formed-of}
 use Rattle.relation.proofs.Checks.{rows-meet}
 use Rattle.splitting.specs.Split.{pruneRelated}
 use Rattle.splitting.proofs.Rows.{row-left, row-without, rows-next, rows-first, rows-end}
+use Rattle.splitting.proofs.Touched.{unmet}
 use borrow.Author.Needs.{needs}
 use Rattle.splitting.proofs.prune_related.Statement.{statement}
 use Rattle.splitting.proofs.prune_related.Tie as tie
@@ -27,14 +27,6 @@ module _ (n : ℕ) (Rem Hits : Set) (K P : Rel) (g q : ℕ) where
   kept : anyBelow n (λ x. P g x && Hits x) ≡ false → K g q ≡ pruneRelated n Rem Hits K P g q
   unfolding pruneRelated
   kept e = sym (ap (λ (b : Bool). K g q && not (b && Rem q)) e ∙ and-true (K g q))
-
-  -- a row whose block has no hit
-  unmet : ((x : ℕ) → x < n → P g x ≡ true → Hits x ≡ false) → K g q ≡ pruneRelated n Rem Hits K P g q
-  unmet none = kept (sym (any-no n (λ x. P g x && Hits x) (λ x hx. go (P g x) (Hits x) (none x hx))))
-    where
-      go : (p h : Bool) → (p ≡ true → h ≡ false) → p && h ≡ false
-      go false h s = refl
-      go true h s = s refl
 
 abbrev Inv-loop : tie.InvT-loop
 Inv-loop related₀ blocks n rem hits rows w g₀ related g = related ≡ matrixOf n (rowsOf g (pruneRelated n (inRow rem) (inRow hits) (relationOf n related₀) (relationOf n blocks)) (relationOf n related₀))

@@ -10,19 +10,10 @@ use Rattle.relation.specs.Matrix.{inRow, relationOf, matrixOf, rowsOf}
 use Rattle.relation.proofs.Matrices.{length-matrixOf, matrix-relation, formed-of}
 use Rattle.splitting.specs.Split.{splitBlocks}
 use Rattle.splitting.proofs.Rows.{row-kept, row-without, rows-next, rows-first, rows-end}
+use Rattle.splitting.proofs.Touched.{blocks-unsplit}
 use borrow.Author.Needs.{needs}
 use Rattle.splitting.proofs.split_blocks.Statement.{statement}
 use Rattle.splitting.proofs.split_blocks.Tie as tie
-
--- a block that lies on one side
-unsplit : (Rem : Set) (P : Rel) (g q : ℕ) → (P g q ≡ true → Rem q ≡ Rem g) → P g q ≡ splitBlocks Rem P g q
-unfolding splitBlocks
-unsplit Rem P g q same = go (P g q) (Rem g) (Rem q) same
-  where
-    go : (p rg rq : Bool) → (p ≡ true → rq ≡ rg) → p ≡ p && cond rg rq (not rq)
-    go false rg rq s = refl
-    go true true rq s = sym (s refl)
-    go true false rq s = sym (ap not (s refl))
 
 abbrev Inv-loop : tie.InvT-loop
 Inv-loop blocks₀ n rem rows g₀ blocks g = blocks ≡ matrixOf n (rowsOf g (splitBlocks (inRow rem) (relationOf n blocks₀)) (relationOf n blocks₀))
@@ -40,7 +31,7 @@ loop-holds c =
     let Rem = inRow (now (start .args .rem)) in
     let P = relationOf n (now (start .args .blocks)) in
     matrix-relation _ _ (start .pre .0 .1) (λ j. c .before .before .slice-known .given j .fits)
-    ∙ rows-first n (splitBlocks Rem P) P (inRow (now (start .args .rows))) (λ t q ht hq e. unsplit Rem P t q (start .pre .1 t q ht hq e)) _ _ (c .next-state .ensures)
+    ∙ rows-first n (splitBlocks Rem P) P (inRow (now (start .args .rows))) (λ t q ht hq e. blocks-unsplit Rem P t q (start .pre .1 t q ht hq e)) _ _ (c .next-state .ensures)
 
 contains-requires : tie.Need-contains-requires Inv-loop μ-loop
 contains-requires c κs = search needs
@@ -81,7 +72,7 @@ loop-again c =
     (λ w. w .6 ∙ w .3 .ensures ∙ row-kept n (splitBlocks Rem P) P g (at .loop .blocks) hg (at .loop .inv) Rem (λ q hq. sym (ap (λ (b : Bool). P g q && cond b (Rem q) (not (Rem q))) (sym (c .before .before .before .contains .ensures) ∙ w .0 .taken))))
     (λ w. w .6 ∙ w .3 .ensures ∙ row-without n (splitBlocks Rem P) P g (at .loop .blocks) hg (at .loop .inv) Rem (λ q hq. sym (ap (λ (b : Bool). P g q && cond b (Rem q) (not (Rem q))) (sym (c .before .before .before .contains .ensures) ∙ w .0 .left))))
     (c .before .before .if1 .came)
-    ∙ rows-next n (splitBlocks Rem P) P (inRow (now (a .rows))) (λ t q ht hq e. unsplit Rem P t q (start .pre .1 t q ht hq e)) _ _ _ (c .next-state2 .ensures)
+    ∙ rows-next n (splitBlocks Rem P) P (inRow (now (a .rows))) (λ t q ht hq e. blocks-unsplit Rem P t q (start .pre .1 t q ht hq e)) _ _ _ (c .next-state2 .ensures)
 
 same-length : tie.Need-same-length Inv-loop μ-loop
 same-length c = ap length (c .before .loop .inv) ∙ length-matrixOf _ _ ∙ sym (c .before .before .before .before .before .pre .0 .1 .long)
