@@ -1,9 +1,10 @@
 -- What the engine's own functions say of each other: relations held by matrices.
 use Prim.Native.Nat.{ℕ, zero, suc, _<_}
 use mathlib.Core.Path.{_≡_}
-use mathlib.Core.Bool.{not, _&&_}
+use mathlib.Core.Bool.{false, not, _&&_}
 use mathlib.Core.List.{List}
 use lib.Dec.{T}
+use lib.ListN.{length}
 use Rattle.lts.specs.Bounded.{restrict}
 use Rattle.lts.specs.System.{Rel, Lts}
 use Rattle.lts.specs.Refinement.{Relations, block, refine, eachAction, stepOf}
@@ -12,7 +13,7 @@ use Rattle.lts.proofs.Refine.{Blocks}
 use Rattle.lts.proofs.Run.{Reached}
 use Rattle.predecessors.specs.Sources.{actionSet, removeSet}
 use Rattle.splitting.specs.Split.{splitBlocks, refinedRelated}
-use Rattle.relation.specs.Matrix.{relationOf, matrixOf, Matrix}
+use Rattle.relation.specs.Matrix.{inRow, relationOf, matrixOf, Matrix}
 
 -- the relations that the matrices of K and V hold
 unfoldable pub heldBy : ℕ → List ℕ → Rel
@@ -40,6 +41,13 @@ actionsTo n outside inside members (suc j) r =
 abbrev pub acted : ℕ → List ℕ → List ℕ → List ℕ → ℕ → List ℕ → List ℕ → Refined
 acted n outside inside members j related blocks =
     actionsTo n outside inside members j (record { related = relationOf n related; blocks = relationOf n blocks })
+
+-- After a part of a step K and its blocks have, at each state outside `touched`, the rows that they had before it; `touched` has grown.
+pub record Untouched (n : ℕ) (related blocks touched related′ blocks′ touched′ : List ℕ) : Type 0 where
+  pub long : length touched′ ≡ 4
+  pub grows : (g : ℕ) → g < n → inRow touched′ g ≡ false → inRow touched g ≡ false
+  pub related-same : (g h : ℕ) → g < n → h < n → inRow touched′ g ≡ false → relationOf n related′ g h ≡ relationOf n related g h
+  pub blocks-same : (g h : ℕ) → g < n → h < n → inRow touched′ g ≡ false → relationOf n blocks′ g h ≡ relationOf n blocks g h
 
 -- K has blocks after each action of the step of p's block
 pub record Steady (L : Lts) (p : ℕ) (s : Relations) : Type 0 where

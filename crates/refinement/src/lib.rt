@@ -5,10 +5,52 @@ ghost use Prim.Native.Nat.{_*_, _<_, _≤_};
 ghost use lib.ListN.{length};
 ghost use Rattle.lts.specs.Refinement.{block, coarsest};
 ghost use Rattle.lts.specs.Table.{tableLts, Table};
-ghost use Rattle.relation.specs.Matrix.{rowWords, relationOf, matrixOf, Matrix};
+ghost use Rattle.relation.specs.Matrix.{inRow, rowWords, relationOf, matrixOf, Matrix};
 ghost use Rattle.predecessors.specs.Sources.{actionSet, removeSet};
-ghost use Rattle.splitting.specs.Split.{splitBlocks, refinedRelated};
-ghost use Rattle.refinement.specs.Engine.{acted, relationsOf, stepped, Steady, Start};
+ghost use Rattle.splitting.specs.Split.{splitRelated, splitBlocks, pruneRelated, refinedRelated, Parted};
+ghost use Rattle.refinement.specs.Engine.{acted, relationsOf, stepped, Steady, Start, Untouched};
+
+// The split of K and of its blocks by Rem. Adds the rows that it can change to `touched`.
+fn split_by(
+    n: usize,
+    rem: &[u64; 4],
+    shared: &[u64; 4],
+    related: &mut [u64],
+    blocks: &mut [u64],
+    touched: &mut [u64],
+)
+    requires { ⌜ (n ≤ 256) × Matrix n (now related) × Matrix n (now blocks) × Parted n (relationOf n (now blocks)) (inRow (now shared)) × (length (now touched) ≡ 4) ⌝ }
+    ensures { λ _. ⌜ now (related .exit) ≡ matrixOf n (splitRelated (inRow (now (rem .entry))) (relationOf n (now (related .entry))) (relationOf n (now (blocks .entry)))) ⌝ }
+    ensures { λ _. ⌜ now (blocks .exit) ≡ matrixOf n (splitBlocks (inRow (now (rem .entry))) (relationOf n (now (blocks .entry)))) ⌝ }
+    ensures { λ _. ⌜ Untouched n (now (related .entry)) (now (blocks .entry)) (now (touched .entry)) (now (related .exit)) (now (blocks .exit)) (now (touched .exit)) ⌝ }
+{
+    let mut split = [0u64; 4];
+    relation::row_copy(&mut split, rem, 4);
+    relation::row_intersect(&mut split, shared, 4);
+    let rows = splitting::meeting_rows(blocks, n, &split);
+    splitting::split_related(related, blocks, n, rem, &rows);
+    splitting::split_blocks(blocks, n, rem, &rows);
+    relation::row_union(touched, &rows, 4);
+}
+
+// Drops from K what Rem refutes over the blocks with a hit. Adds the rows that it can change to `touched`.
+fn prune_by(
+    n: usize,
+    rem: &[u64; 4],
+    hits: &[u64],
+    shared: &[u64; 4],
+    related: &mut [u64],
+    blocks: &[u64],
+    touched: &mut [u64],
+)
+    requires { ⌜ (n ≤ 256) × Matrix n (now related) × Matrix n (now blocks) × (4 ≤ length (now hits)) × Parted n (relationOf n (now blocks)) (inRow (now shared)) × (length (now touched) ≡ 4) ⌝ }
+    ensures { λ _. ⌜ now (related .exit) ≡ matrixOf n (pruneRelated n (inRow (now (rem .entry))) (inRow (now (hits .entry))) (relationOf n (now (related .entry))) (relationOf n (now (blocks .entry)))) ⌝ }
+    ensures { λ _. ⌜ Untouched n (now (related .entry)) (now (blocks .entry)) (now (touched .entry)) (now (related .exit)) (now (blocks .entry)) (now (touched .exit)) ⌝ }
+{
+    let rows = splitting::meeting_rows(blocks, n, hits);
+    splitting::prune_related(related, blocks, n, rem, hits, &rows);
+    relation::row_union(touched, &rows, 4);
+}
 
 // One action of a step: Rem, the split of the blocks by it, and the pairs that it refutes over the new blocks.
 fn refine_action(
@@ -17,23 +59,27 @@ fn refine_action(
     outside: &[u64; 260],
     inside: &[u64; 260],
     members: &[u64; 260],
+    shared: &[u64; 4],
     related: &mut [u64],
     blocks: &mut [u64],
+    touched: &mut [u64],
 )
-    requires { ⌜ (n ≤ 256) × (a ≤ 64) × Matrix n (now related) × Matrix n (now blocks) ⌝ }
+    requires { ⌜ (n ≤ 256) × (a ≤ 64) × Matrix n (now related) × Matrix n (now blocks) × Parted n (relationOf n (now blocks)) (inRow (now shared)) × (length (now touched) ≡ 4) ⌝ }
     ensures { λ _. ⌜ now (related .exit) ≡ matrixOf n (refinedRelated n (removeSet (now (outside .entry)) (now (inside .entry)) a) (actionSet (now (members .entry)) a) (relationOf n (now (related .entry))) (relationOf n (now (blocks .entry)))) ⌝ }
     ensures { λ _. ⌜ now (blocks .exit) ≡ matrixOf n (splitBlocks (removeSet (now (outside .entry)) (now (inside .entry)) a) (relationOf n (now (blocks .entry)))) ⌝ }
+    ensures { λ _. ⌜ Untouched n (now (related .entry)) (now (blocks .entry)) (now (touched .entry)) (now (related .exit)) (now (blocks .exit)) (now (touched .exit)) ⌝ }
 {
     let rem = predecessors::remove_set(outside, inside, a);
     if relation::row_any(&rem, 4) {
-        splitting::split_related(related, blocks, n, &rem);
-        splitting::split_blocks(blocks, n, &rem);
-        splitting::prune_related(
-            related,
-            blocks,
+        split_by(n, &rem, shared, related, blocks, touched);
+        prune_by(
             n,
             &rem,
             predecessors::action_part(members, a),
+            shared,
+            related,
+            blocks,
+            touched,
         );
     }
 }
@@ -45,16 +91,29 @@ fn refine_actions(
     outside: &[u64; 260],
     inside: &[u64; 260],
     members: &[u64; 260],
+    shared: &[u64; 4],
     related: &mut [u64],
     blocks: &mut [u64],
+    touched: &mut [u64],
 )
-    requires { ⌜ (n ≤ 256) × (m ≤ 64) × Matrix n (now related) × Matrix n (now blocks) ⌝ }
+    requires { ⌜ (n ≤ 256) × (m ≤ 64) × Matrix n (now related) × Matrix n (now blocks) × Parted n (relationOf n (now blocks)) (inRow (now shared)) × (length (now touched) ≡ 4) ⌝ }
     ensures { λ _. ⌜ now (related .exit) ≡ matrixOf n (acted n (now (outside .entry)) (now (inside .entry)) (now (members .entry)) m (now (related .entry)) (now (blocks .entry)) .related) ⌝ }
     ensures { λ _. ⌜ now (blocks .exit) ≡ matrixOf n (acted n (now (outside .entry)) (now (inside .entry)) (now (members .entry)) m (now (related .entry)) (now (blocks .entry)) .blocks) ⌝ }
+    ensures { λ _. ⌜ Untouched n (now (related .entry)) (now (blocks .entry)) (now (touched .entry)) (now (related .exit)) (now (blocks .exit)) (now (touched .exit)) ⌝ }
 {
     let mut a = 0;
     while a < m {
-        refine_action(n, a + 1, outside, inside, members, related, blocks);
+        refine_action(
+            n,
+            a + 1,
+            outside,
+            inside,
+            members,
+            shared,
+            related,
+            blocks,
+            touched,
+        );
         a += 1;
     }
 }
