@@ -18,12 +18,12 @@ use Rattle.lts.proofs.Bounded.{and-iff, any-iff, test-ext}
 use Rattle.lts.proofs.System.{into-to, into-from}
 use Rattle.lts.proofs.Table.{table-formed}
 use Rattle.relation.specs.Matrix.{bit, inRow, rowOf, relationOf, matrixOf, setRow}
-use Rattle.relation.proofs.Bounded.{any-more, all-cong, clash, length-listBelow}
+use Rattle.relation.proofs.Bounded.{any-no, any-cong, all-cong, clash, length-listBelow}
 use Rattle.relation.proofs.Bits.{bit-of-zero, bit-not}
 use Rattle.relation.proofs.Rows.{inRow-of, rowOf-cong, row-ext}
 use Rattle.relation.proofs.Matrices.{matrixOf-cong, relation-of}
 use Rattle.predecessors.specs.Sources.{Numbers, sourcesInto, actionSet, removeSet}
-use Rattle.predecessors.proofs.Tables.{all-more, equal, entry-leads, entry-of, initial-at, into-cong, has-actions}
+use Rattle.predecessors.proofs.Tables.{all-more, equal, entry-leads, entry-of, initial-at, has-actions}
 
 -- ---- rows of words: belongs to relation
 
@@ -43,7 +43,7 @@ row-none k =
     zeros (suc k) zero = refl
     zeros (suc k) (suc j) = zeros k j
 
-pub row-all : (k q : ℕ) → q < k * 64 → inRow (replicate k 18446744073709551615) q ≡ true
+row-all : (k q : ℕ) → q < k * 64 → inRow (replicate k 18446744073709551615) q ≡ true
 unfolding inRow
 row-all k q h =
     ap (λ (x : ℕ). bit x (q % 64)) (getD-replicate k (q / 64) 18446744073709551615 0 (omega arith))
@@ -72,39 +72,67 @@ removed outside inside a {row = row} outer inner copied =
     (ap (λ (l : List ℕ). inRow l q) copied ∙ inRow-of 4 _ q h ∙ ap (λ (l : List ℕ). inRow l q) outer ∙ part-set outside a q)
     (ap (λ (l : List ℕ). inRow l q) inner ∙ part-set inside a q))
 
--- ---- `sources_into`, transition by transition
+-- ---- the sets into X
 
-module _ (sources actions targets : List ℕ) (X : Set) where
-  sources-more : (i x : ℕ) → sourcesInto (i + 1) sources actions targets X x ≡ sourcesInto i sources actions targets X x || (eqb x (256 * getD actions i 0 + getD sources i 0) && X (getD targets i 0))
+module _ (k : ℕ) (sources actions targets : List ℕ) where
+  pub sources-cong : (X Y : Set) → ((i : ℕ) → i < k → X (getD targets i 0) ≡ Y (getD targets i 0)) → (x : ℕ)
+      → sourcesInto k sources actions targets X x ≡ sourcesInto k sources actions targets Y x
   unfolding sourcesInto
-  sources-more i x = any-more (λ i. eqb x (256 * getD actions i 0 + getD sources i 0) && X (getD targets i 0)) i
+  sources-cong X Y same x = any-cong k _ _ (λ i h. ap (λ (b : Bool). eqb x (256 * getD actions i 0 + getD sources i 0) && b) (same i h))
 
-  pub sources-none : (w : ℕ) → replicate w 0 ≡ rowOf w (sourcesInto 0 sources actions targets X)
-  unfolding sourcesInto anyBelow
-  sources-none w = row-none w
+  pub sources-all : {row : List ℕ} → Numbers k sources actions targets → row ≡ rowOf 260 (sourcesInto k sources actions targets (inRow (replicate 4 18446744073709551615)))
+      → row ≡ rowOf 260 (sourcesInto k sources actions targets (λ t. true))
+  sources-all numbers e =
+      e ∙ rowOf-cong 260 _ _ (λ x h.
+      sources-cong (inRow (replicate 4 18446744073709551615)) (λ t. true) (λ i l. row-all 4 (getD targets i 0) (omega (arith, numbers .target i l))) x)
 
-  pub sources-added : (w i : ℕ) (row : List ℕ) → row ≡ rowOf w (sourcesInto i sources actions targets X) → X (getD targets i 0) ≡ true
-      → rowOf (length row) (λ x. eqb x (256 * getD actions i 0 + getD sources i 0) || inRow row x) ≡ rowOf w (sourcesInto (i + 1) sources actions targets X)
-  sources-added w i row now e =
-      ap (λ (k : ℕ). rowOf k (λ x. eqb x (256 * getD actions i 0 + getD sources i 0) || inRow row x)) (ap length now ∙ length-listBelow w _)
-      ∙ rowOf-cong w _ _ (λ x h.
-      ap (λ (b : Bool). eqb x (256 * getD actions i 0 + getD sources i 0) || b) (ap (λ (l : List ℕ). inRow l x) now ∙ inRow-of w _ x h)
-      ∙ swap (eqb x (256 * getD actions i 0 + getD sources i 0)) (sourcesInto i sources actions targets X x) e ∙ sym (sources-more i x))
+  pub sources-empty : (x : ℕ) → sourcesInto k sources actions targets (λ q. false) x ≡ false
+  unfolding sourcesInto
+  sources-empty x = sym (any-no k _ (λ i h. and-false (eqb x (256 * getD actions i 0 + getD sources i 0))))
     where
-      swap : (a b : Bool) {y : Bool} → y ≡ true → a || b ≡ b || (a && y)
-      swap true true f = refl
-      swap true false f = sym f
-      swap false true f = refl
-      swap false false f = refl
+      and-false : (b : Bool) → b && false ≡ false
+      and-false true = refl
+      and-false false = refl
 
-  pub sources-skipped : (w i : ℕ) (row : List ℕ) → row ≡ rowOf w (sourcesInto i sources actions targets X) → X (getD targets i 0) ≡ false
-      → row ≡ rowOf w (sourcesInto (i + 1) sources actions targets X)
-  sources-skipped w i row now e = now ∙ rowOf-cong w _ _ (λ x h. same (sourcesInto i sources actions targets X x) (eqb x (256 * getD actions i 0 + getD sources i 0)) e ∙ sym (sources-more i x))
-    where
-      same : (a b : Bool) {y : Bool} → y ≡ false → a ≡ a || (b && y)
-      same true b f = refl
-      same false true f = sym f
-      same false false f = refl
+pub sources-or : (k : ℕ) (sources actions targets : List ℕ) (X Y : Set) (x : ℕ)
+    → sourcesInto k sources actions targets (λ q. X q || Y q) x ≡ sourcesInto k sources actions targets X x || sourcesInto k sources actions targets Y x
+unfolding sourcesInto anyBelow
+sources-or zero sources actions targets X Y x = refl
+sources-or (suc k) sources actions targets X Y x =
+    ap (λ (b : Bool). b || (eqb x (256 * getD actions k 0 + getD sources k 0) && (X (getD targets k 0) || Y (getD targets k 0)))) (sources-or k sources actions targets X Y x)
+    ∙ shuffle (sourcesInto k sources actions targets X x) (sourcesInto k sources actions targets Y x) (eqb x (256 * getD actions k 0 + getD sources k 0)) (X (getD targets k 0)) (Y (getD targets k 0))
+  where
+    shuffle : (a b e x y : Bool) → (a || b) || (e && (x || y)) ≡ (a || (e && x)) || (b || (e && y))
+    shuffle true b e x y = refl
+    shuffle false true true true y = refl
+    shuffle false true true false y = refl
+    shuffle false true false x y = refl
+    shuffle false false true true y = refl
+    shuffle false false true false y = refl
+    shuffle false false false x y = refl
+
+-- the part of action a in a row of sets
+pub action-set-of : (S : Set) {row : List ℕ} (a q : ℕ) → row ≡ rowOf 260 S → a ≤ 64 → q < 256 → actionSet row a q ≡ S (256 * a + q)
+unfolding actionSet
+action-set-of S a q e ha hq = ap (λ (l : List ℕ). inRow l (256 * a + q)) e ∙ inRow-of 260 S (256 * a + q) (omega arith)
+
+-- where N and Y have all targets, what has a transition and none into Y is what has one into N and none into Y
+pub remove-enabled : (k : ℕ) (sources actions targets : List ℕ) (N Y : Set) → ((i : ℕ) → i < k → N (getD targets i 0) || Y (getD targets i 0) ≡ true)
+    → {enabled outside inside : List ℕ} → enabled ≡ rowOf 260 (sourcesInto k sources actions targets (λ t. true)) → outside ≡ rowOf 260 (sourcesInto k sources actions targets N)
+    → inside ≡ rowOf 260 (sourcesInto k sources actions targets Y) → (a q : ℕ) → a ≤ 64 → q < 256 → removeSet enabled inside a q ≡ removeSet outside inside a q
+unfolding removeSet
+remove-enabled k sources actions targets N Y whole {enabled} {outside} {inside} all outer inner a q ha hq =
+    ap (λ (b : Bool). b && not (actionSet inside a q)) (
+    action-set-of (sourcesInto k sources actions targets (λ t. true)) a q all ha hq
+    ∙ sources-cong k sources actions targets (λ t. true) (λ t. N t || Y t) (λ i h. sym (whole i h)) (256 * a + q)
+    ∙ sources-or k sources actions targets N Y (256 * a + q)
+    ∙ sym (ap₂ _||_ (action-set-of (sourcesInto k sources actions targets N) a q outer ha hq) (action-set-of (sourcesInto k sources actions targets Y) a q inner ha hq)))
+    ∙ without (actionSet outside a q) (actionSet inside a q)
+  where
+    without : (b c : Bool) → (b || c) && not c ≡ b && not c
+    without true c = refl
+    without false true = refl
+    without false false = refl
 
 -- ---- `keep_enabled`, transition by transition: after i of them (p, q) is left if q has each action that they show for p
 
@@ -193,9 +221,7 @@ module _ {n m k : ℕ} {sources actions targets : List ℕ} (tab : Table n m k s
   -- the part of action a in the row of these sets
   pub action-set-into : (X : Set) {row : List ℕ} (a q : ℕ) → row ≡ rowOf 260 (sourcesInto k sources actions targets X) → a ≤ 64 → q < 256
       → actionSet row a q ≡ into (tableLts n m k sources actions targets) a X q
-  unfolding actionSet
-  action-set-into X a q e ha hq =
-      ap (λ (l : List ℕ). inRow l (256 * a + q)) e ∙ inRow-of 260 (sourcesInto k sources actions targets X) (256 * a + q) (omega arith) ∙ sources-into-is X a q hq
+  action-set-into X a q e ha hq = action-set-of (sourcesInto k sources actions targets X) a q e ha hq ∙ sources-into-is X a q hq
 
   -- Rem, from the sets into N and into Y
   pub remove-set-is : (Y N : Set) {outside inside : List ℕ} (a q : ℕ) → outside ≡ rowOf 260 (sourcesInto k sources actions targets N)
@@ -205,14 +231,12 @@ module _ {n m k : ℕ} {sources actions targets : List ℕ} (tab : Table n m k s
   remove-set-is Y N a q outer inner ha hq = ap₂ (λ (x y : Bool). x && not y) (action-set-into N a q outer ha hq) (action-set-into Y a q inner ha hq)
 
   -- K at the beginning, from the set of the states with a transition by each action
-  pub initial-is : (preorder : Rel) (all : List ℕ) {enabled : List ℕ} → ((t : ℕ) → t < 256 → inRow all t ≡ true)
-      → enabled ≡ rowOf 260 (sourcesInto k sources actions targets (inRow all))
+  pub initial-is : (preorder : Rel) {enabled : List ℕ} → enabled ≡ rowOf 260 (sourcesInto k sources actions targets (λ t. true))
       → matrixOf n (keptBelow sources actions enabled preorder k) ≡ matrixOf n (initial (tableLts n m k sources actions targets) preorder .related)
-  initial-is preorder all {enabled} full e =
+  initial-is preorder {enabled} e =
       matrixOf-cong n (keptBelow sources actions enabled preorder k) (initial (tableLts n m k sources actions targets) preorder .related) (λ p q hp hq.
       ap (λ (b : Bool). preorder p q && b)
       (all-cong k _ _ (λ i h. ap (λ (b : Bool). eqb (getD sources i 0) p ⇒ b)
-      (action-set-into (inRow all) (getD actions i 0) q e (table-numbers tab .action i h) (omega (arith, tab .states))
-      ∙ into-cong tab (inRow all) (λ t. true) (λ t l. full t (omega (arith, tab .states))) (getD actions i 0) q))
+      (action-set-into (λ t. true) (getD actions i 0) q e (table-numbers tab .action i h) (omega (arith, tab .states))))
       ∙ has-actions tab p q)
       ∙ sym (initial-at n m k sources actions targets preorder p q hp hq))

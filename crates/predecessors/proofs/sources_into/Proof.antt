@@ -1,92 +1,79 @@
+-- `predecessors::sources_into` meets its contract: by the laws of members below a state. Assumes nothing.
 use mathlib.Core.Path.{_≡_, sym, ap, _∙_}
-use mathlib.Core.Logic.{⊎-elim}
-use Prim.Native.Nat.{ℕ, _≤_, _-_}
+use mathlib.Core.Bool.{true}
+use mathlib.Core.List.{List}
+use Prim.Native.Nat.{ℕ, _≤_, _<_, _-_}
 use native.Mathlib.Omega.{arith}
 use lib.ListN.{length}
 use denote.Ref.{now}
-use Rattle.relation.specs.Matrix.{inRow, wordAt, rowOf}
+use Rattle.relation.specs.Matrix.{inRow, rowOf, statesBelow}
 use Rattle.relation.proofs.Bounded.{length-listBelow}
-use Rattle.predecessors.specs.Sources.{sourcesInto}
-use Rattle.predecessors.proofs.Laws.{sources-none, sources-added, sources-skipped}
+use Rattle.predecessors.specs.Sources.{Numbers, Linked, Chained, sourcesInto}
+use Rattle.predecessors.proofs.Chains.{members-begin, members-more, members-end}
 use borrow.Author.Needs.{needs}
 use Rattle.predecessors.proofs.sources_into.Statement.{statement}
 use Rattle.predecessors.proofs.sources_into.Tie as tie
 
+abbrev Gathered : List ℕ → List ℕ → List ℕ → List ℕ → List ℕ → List ℕ → ℕ → Type 0
+Gathered sources actions head link set out t =
+    (k : ℕ) (targets : List ℕ) → Numbers k sources actions targets → Linked k targets head link → out ≡ rowOf 260 (sourcesInto k sources actions targets (statesBelow t (inRow set)))
+
 abbrev Inv-loop : tie.InvT-loop
-Inv-loop k sources actions targets set out₀ i₀ out i = (i ≤ k) × (out ≡ rowOf 260 (sourcesInto i sources actions targets (inRow set)))
+Inv-loop sources actions head link set out₀ t₀ out t = (t ≤ 256) × (t < 256 → inRow set t ≡ true) × Gathered sources actions head link set out t
 
 abbrev μ-loop : tie.MeasureT-loop
-μ-loop k sources actions targets set out₀ i₀ out i = k - i
+μ-loop sources actions head link set out₀ t₀ out t = 256 - t
+
+long : (set : List ℕ) (t : ℕ) {sources actions head link out : List ℕ} → Chained sources actions head link → Gathered sources actions head link set out t → length out ≡ 260
+long set t chained gathered = ap length (gathered (chained .0) (chained .1) (chained .2) (chained .3)) ∙ length-listBelow 260 _
+
+next-state-requires : tie.Need-next-state-requires Inv-loop μ-loop
+next-state-requires c κs = search needs
 
 loop-holds : tie.Need-loop-holds Inv-loop μ-loop
-loop-holds c = (search needs, sources-none (now (c .args .sources)) (now (c .args .actions)) (now (c .args .targets)) (inRow (now (c .args .set))) 260)
+loop-holds c =
+    let a = c .before .before .args in
+    let next = c .next-state .ensures in
+    (next .below, next .member, λ k D numbers linked. members-begin k (now (a .sources)) (now (a .actions)) D (inRow (now (a .set))) next)
 
-mul-t : tie.Need-mul-t Inv-loop μ-loop
-mul-t c = search needs
+slice-aggregate-add-entering : tie.Need-slice-aggregate-add-entering Inv-loop μ-loop
+slice-aggregate-add-entering c =
+    let start = c .before .before .before .before .before in
+    let at = c .before .before .loop in
+    sym (long (now (start .args .set)) (at .t) (start .pre) (at .inv .2))
 
-element-copy-out-t : tie.Need-element-copy-out-t Inv-loop μ-loop
-element-copy-out-t c = search needs
+add-entering-requires : tie.Need-add-entering-requires Inv-loop μ-loop
+add-entering-requires c κs =
+    let start = c .before .before .before .before .before in
+    let at = c .before .before .loop in
+    (start .pre, c .before .loop-test .taken, long (now (start .args .set)) (at .t) (start .pre) (at .inv .2))
 
-cast-t : tie.Need-cast-t Inv-loop μ-loop
-cast-t c = omega (arith, c .before .before .before .pre .target (c .before .before .loop .i) (c .before .loop-test .taken))
+add-next-state : tie.Need-add-next-state Inv-loop μ-loop
+add-next-state c = search needs
 
-contains-requires : tie.Need-contains-requires Inv-loop μ-loop
-contains-requires c κs = omega (arith, c .before .before .before .before .pre .target (c .before .before .before .loop .i) (c .before .before .loop-test .taken))
-
-element-copy-out-x : tie.Need-element-copy-out-x Inv-loop μ-loop
-element-copy-out-x c = search needs
-
-cast-x : tie.Need-cast-x Inv-loop μ-loop
-cast-x c = omega (arith, c .before .before .before .before .before .before .before .pre .action (c .before .before .before .before .before .before .loop .i) (c .before .before .before .before .before .loop-test .taken))
-
-mul-x : tie.Need-mul-x Inv-loop μ-loop
-mul-x c = omega (arith, c .before .before .before .before .before .before .before .pre .action (c .before .before .before .before .before .before .loop .i) (c .before .before .before .before .before .loop-test .taken))
-
-mul-x-2 : tie.Need-mul-x-2 Inv-loop μ-loop
-mul-x-2 c = search needs
-
-element-copy-out-x-2 : tie.Need-element-copy-out-x-2 Inv-loop μ-loop
-element-copy-out-x-2 c = search needs
-
-cast-x-2 : tie.Need-cast-x-2 Inv-loop μ-loop
-cast-x-2 c = omega (arith, c .before .before .before .before .before .before .before .before .pre .source (c .before .before .before .before .before .before .before .loop .i) (c .before .before .before .before .before .before .loop-test .taken))
-
-add-x : tie.Need-add-x Inv-loop μ-loop
-add-x c = omega (arith, c .before .before .before .before .before .before .before .before .pre .action (c .before .before .before .before .before .before .before .loop .i) (c .before .before .before .before .before .before .loop-test .taken), c .before .before .before .before .before .before .before .before .pre .source (c .before .before .before .before .before .before .before .loop .i) (c .before .before .before .before .before .before .loop-test .taken))
-
-slice-aggregate-insert : tie.Need-slice-aggregate-insert Inv-loop μ-loop
-slice-aggregate-insert c = sym (ap length (c .before .before .before .before .before .before .before .before .loop .inv .1) ∙ length-listBelow 260 _)
-
-insert-requires : tie.Need-insert-requires Inv-loop μ-loop
-insert-requires c κs =
-    let at = c .before .before .before .before .before .before .before .before .loop in
-    let i = at .i in
-    let h = c .before .before .before .before .before .before .before .loop-test .taken in
-    omega (arith, c .before .before .before .before .before .before .before .before .before .pre .action i h, c .before .before .before .before .before .before .before .before .before .pre .source i h, ap length (at .inv .1), length-listBelow 260 (wordAt (sourcesInto i (now (c .before .before .before .before .before .before .before .before .before .args .sources)) (now (c .before .before .before .before .before .before .before .before .before .args .actions)) (now (c .before .before .before .before .before .before .before .before .before .args .targets)) (inRow (now (c .before .before .before .before .before .before .before .before .before .args .set))))))
-
-add-i : tie.Need-add-i Inv-loop μ-loop
-add-i c = search needs
+next-state-requires-2 : tie.Need-next-state-requires-2 Inv-loop μ-loop
+next-state-requires-2 c κs = search needs
 
 loop-less : tie.Need-loop-less Inv-loop μ-loop
-loop-less c = search needs
+loop-less c = omega (arith, c .next-state2 .ensures .above, c .before .before .before .before .before .loop-test .taken)
 
 loop-again : tie.Need-loop-again Inv-loop μ-loop
 loop-again c =
-    let at = c .before .before .before .before .before .loop in
-    let a = c .before .before .before .before .before .before .args in
-    let S = now (a .sources) in
-    let A = now (a .actions) in
-    let D = now (a .targets) in
-    let X = inRow (now (a .set)) in (
-      search needs,
-      ⊎-elim
-          (λ w. w .6 ∙ w .4 .ensures ∙ sources-added S A D X 260 (at .i) (at .out) (at .inv .1) (sym (c .before .contains .ensures) ∙ w .0 .taken))
-          (λ w. w .1 ∙ sources-skipped S A D X 260 (at .i) (at .out) (at .inv .1) (sym (c .before .contains .ensures) ∙ w .0 .left))
-          (c .if1 .came),
+    let a = c .before .before .before .before .before .before .before .before .before .args in
+    let at = c .before .before .before .before .before .before .loop in
+    let next = c .next-state2 .ensures in (
+      next .below,
+      next .member,
+      λ k D numbers linked. members-more k (now (a .sources)) (now (a .actions)) D (inRow (now (a .set))) (at .inv .1 (c .before .before .before .before .before .loop-test .taken)) next
+          (at .inv .2 k D numbers linked) (c .before .before .before .add-entering .ensures k D numbers linked),
     )
 
 returns : tie.Need-returns Inv-loop μ-loop
-returns c = c .before .loop .inv .1 ∙ ap (λ (j : ℕ). rowOf 260 (sourcesInto j (now (c .before .before .args .sources)) (now (c .before .before .args .actions)) (now (c .before .before .args .targets)) (inRow (now (c .before .before .args .set))))) (omega arith)
+returns c =
+    let a = c .before .before .before .before .args in
+    let at = c .before .loop in
+    let done : 256 ≤ at .t = omega arith in
+    λ k D numbers linked. members-end k (now (a .sources)) (now (a .actions)) D (inRow (now (a .set))) numbers done (at .inv .2 k D numbers linked)
 
 pub sources-into-spec : {M : Type 1} → statement M
 sources-into-spec =
@@ -94,21 +81,12 @@ sources-into-spec =
     (tie.spec
     Inv-loop
     μ-loop
+    next-state-requires
     loop-holds
-    mul-t
-    element-copy-out-t
-    cast-t
-    contains-requires
-    element-copy-out-x
-    cast-x
-    mul-x
-    mul-x-2
-    element-copy-out-x-2
-    cast-x-2
-    add-x
-    slice-aggregate-insert
-    insert-requires
-    add-i
+    slice-aggregate-add-entering
+    add-entering-requires
+    add-next-state
+    next-state-requires-2
     loop-less
     loop-again
     returns)
