@@ -1,24 +1,24 @@
 -- Laws of columns, blocks and representatives of a bit matrix. Assumes nothing.
 use mathlib.Core.Path.{_≡_, refl, sym, ap, ap₂, _∙_, subst, subst⁻¹}
-use mathlib.Core.Bool.{Bool, true, false, cond, _&&_, _||_, xor}
+use mathlib.Core.Bool.{Bool, true, false, cond, not, _&&_, _||_, xor}
 use mathlib.Core.List.{List, _++_, append-nil}
 use mathlib.Core.Logic.{⊎-elim}
-use Prim.Native.Nat.{ℕ, _+_, _*_, _%_, _≤_, _<_}
-use native.Mathlib.Nat.{eq-or-lt-of-le, mod-lt}
+use Prim.Native.Nat.{ℕ, _+_, _*_, _%_, _^_, _≤_, _<_}
+use native.Mathlib.Nat.{eq-or-lt-of-le}
 use native.Mathlib.Omega.{arith}
-use lib.Dec.{T, eqb}
-use lib.ListN.{length, getD, List·getD-append, drop, drop-of-length-le, replicate, length-append, length-drop}
+use lib.Dec.{T, eqb, ltb}
+use lib.ListN.{length, getD, drop, drop-of-length-le, replicate}
 use borrow.Author.Tests.{lt-ltb, le-ltb, eq-eqb, ne-eqb}
 use Rattle.lts.specs.Bounded.{anyBelow, sumBelow, countBelow, listBelow, passing, lowest}
 use Rattle.lts.specs.System.{Lts, anyState}
 use Rattle.lts.specs.Refinement.{Relations, block, representative, isRepresentative, pending, chosen, blockCount, representatives}
 use Rattle.lts.proofs.Bounded.{any-iff}
 use Rattle.lts.proofs.Count.{passing-at, passing-some}
-use Rattle.relation.specs.Matrix.{wordOf, wordAt, inRow, rowOf, rowWords, statesBelow, relationOf, matrixOf, Matrix, setRow, rowsOf}
+use Rattle.relation.specs.Matrix.{wordOf, wordAt, inRow, rowOf, rowWords, statesBelow, relationOf, matrixOf, Matrix, Row, Next, setRow, rowsOf}
 use Rattle.relation.proofs.Bounded.{lt-or-ge, any-cong, sum-cong, length-listBelow, listBelow-cong, lowest-cong}
-use Rattle.relation.proofs.Rows.{rowOf-cong, inRow-of}
-use Rattle.relation.proofs.Matrices.{inRow-drop, row-long, relation-of, matrixOf-cong, states-in, set-here, set-other, done-more}
-use Rattle.partition.proofs.Passing.{passing-cong, passing-le, lowest-agree, lowest-test}
+use Rattle.relation.proofs.Rows.{rowOf-cong, row-ext, inRow-of}
+use Rattle.relation.proofs.Matrices.{inRow-drop, row-long, relation-of, states-in, states-out, set-here, set-other, done-more}
+use Rattle.partition.proofs.Passing.{passing-cong, lowest-agree, lowest-test}
 use Rattle.partition.specs.Pending.{pendingIn}
 
 -- ---- a row that states are put into one by one, ascending: after q states it holds those of S below q
@@ -26,6 +26,14 @@ use Rattle.partition.specs.Pending.{pendingIn}
 or-false : (b : Bool) → b || false ≡ b
 or-false true = refl
 or-false false = refl
+
+pub and-false : (b : Bool) → b && false ≡ false
+and-false true = refl
+and-false false = refl
+
+pub and-true : (b : Bool) → b && true ≡ b
+and-true true = refl
+and-true false = refl
 
 states-more : (S : ℕ → Bool) (q x : ℕ) → (eqb x q && S q) || statesBelow q S x ≡ statesBelow (q + 1) S x
 states-more S q x =
@@ -45,11 +53,7 @@ pub states-none : (S : ℕ → Bool) → replicate {A = ℕ} 4 0 ≡ rowOf 4 (st
 states-none S = zeros ∙ rowOf-cong 4 (λ q. false) (statesBelow 0 S) (λ q h. sym (ap (λ (b : Bool). b && S q) (le-ltb q 0 (omega arith))))
 
 pub states-skip : (k : ℕ) (S : ℕ → Bool) (q : ℕ) → S q ≡ false → rowOf k (statesBelow q S) ≡ rowOf k (statesBelow (q + 1) S)
-states-skip k S q e = rowOf-cong k _ _ (λ x h. sym (ap (λ (b : Bool). (eqb x q && b) || statesBelow q S x) e ∙ and-false (eqb x q)) ∙ states-more S q x)
-  where
-    and-false : (a : Bool) {b : Bool} → (a && false) || b ≡ b
-    and-false true = refl
-    and-false false = refl
+states-skip k S q e = rowOf-cong k _ _ (λ x h. sym (ap (λ (b : Bool). b || statesBelow q S x) (ap (λ (b : Bool). eqb x q && b) e ∙ and-false (eqb x q))) ∙ states-more S q x)
 
 pub states-take : (k : ℕ) (S : ℕ → Bool) (q : ℕ) (row : List ℕ) → row ≡ rowOf k (statesBelow q S) → S q ≡ true
     → rowOf (length row) (λ x. eqb x q || inRow row x) ≡ rowOf k (statesBelow (q + 1) S)
@@ -58,28 +62,30 @@ states-take k S q row now e =
     ap (λ (m : ℕ). rowOf m (λ x. eqb x q || inRow row x)) long
     ∙ rowOf-cong k _ _ (λ x h.
     ap₂ _||_ (sym (ap (λ (b : Bool). eqb x q && b) e ∙ and-true (eqb x q))) (ap (λ (l : List ℕ). inRow l x) now ∙ inRow-of k (statesBelow q S) x h) ∙ states-more S q x)
-  where
-    and-true : (b : Bool) → b && true ≡ b
-    and-true true = refl
-    and-true false = refl
+
+-- from a on no state of S
+pub states-same : (S : ℕ → Bool) (a b : ℕ) → a ≤ b → ((x : ℕ) → a ≤ x → x < b → S x ≡ false) → (x : ℕ) → statesBelow a S x ≡ statesBelow b S x
+states-same S a b h none x =
+    ⊎-elim (λ (l : x < a). states-in a S x l ∙ sym (states-in b S x (omega arith)))
+    (λ (l : a ≤ x). states-out a S x l ∙ sym (⊎-elim (λ (m : x < b). states-in b S x m ∙ none x l m) (λ (m : b ≤ x). states-out b S x m) (lt-or-ge x b)))
+    (lt-or-ge x a)
+
+-- a row of states below n
+pub states-row : (n : ℕ) (S : ℕ → Bool) {row : List ℕ} → n ≤ 256 → row ≡ rowOf 4 (statesBelow n S) → Row n row
+states-row n S {row} h e = record {
+  long = omega (arith, ap length e, length-listBelow 4 (wordAt (statesBelow n S)));
+  clear = λ q l u. ap (λ (r : List ℕ). inRow r q) e ∙ inRow-of 4 (statesBelow n S) q (omega (arith, u)) ∙ states-out n S q l;
+}
 
 -- ---- blocks that are written row by row
 
--- a row of which the states of a column were kept
-pub kept-row : (n p : ℕ) (g mask : List ℕ) (S : ℕ → Bool) → n ≤ 256 → mask ≡ rowOf 4 (statesBelow n S)
-    → matrixOf n (setRow p (λ q. relationOf n g p q && inRow mask q) (relationOf n g)) ≡ matrixOf n (setRow p (λ q. relationOf n g p q && S q) (relationOf n g))
-kept-row n p g mask S h e = matrixOf-cong n _ _ (λ t q ht hq.
-    ap (λ (b : Bool). cond (eqb t p) (relationOf n g p q && b) (relationOf n g t q))
-    (ap (λ (l : List ℕ). inRow l q) e ∙ inRow-of 4 (statesBelow n S) q (omega arith) ∙ states-in n S q hq))
-
-pub block-row : (n : ℕ) (K : ℕ → ℕ → Bool) (p : ℕ) (g : List ℕ) → p < n → g ≡ matrixOf n (rowsOf p (block K) K)
-    → matrixOf n (setRow p (λ q. relationOf n g p q && K q p) (relationOf n g)) ≡ matrixOf n (rowsOf (p + 1) (block K) K)
-unfolding block
-block-row n K p g hp now =
+pub block-row : (n : ℕ) (K : ℕ → ℕ → Bool) (p : ℕ) (g row : List ℕ) → n ≤ 256 → g ≡ matrixOf n (rowsOf p (block K) K) → row ≡ rowOf 4 (statesBelow n (block K p))
+    → matrixOf n (setRow p (inRow row) (relationOf n g)) ≡ matrixOf n (rowsOf (p + 1) (block K) K)
+block-row n K p g row small now e =
     done-more n (block K) K p _
-    (λ t q ht hq ne. set-other p (λ q. relationOf n g p q && K q p) (relationOf n g) t q ne ∙ relation-of n _ now t q ht hq)
-    (λ q hq. set-here p (λ q. relationOf n g p q && K q p) (relationOf n g) q
-    ∙ ap (λ (b : Bool). b && K q p) (relation-of n _ now p q hp hq ∙ ap (λ (b : Bool). cond b (block K p q) (K p q)) (le-ltb p p (omega arith))))
+    (λ t q ht hq ne. set-other p (inRow row) (relationOf n g) t q ne ∙ relation-of n _ now t q ht hq)
+    (λ q hq. set-here p (inRow row) (relationOf n g) q
+    ∙ ap (λ (l : List ℕ). inRow l q) e ∙ inRow-of 4 (statesBelow n (block K p)) q (omega arith) ∙ states-in n (block K p) q hq)
 
 -- ---- a row of a matrix, as a part that starts at its first word
 
@@ -99,9 +105,76 @@ pub fill-done : (f : ℕ → ℕ) (d l : List ℕ) (j n : ℕ) → l ≡ listBel
 fill-done f d l j n now end long =
     now ∙ ap₂ (λ (k : ℕ) (t : List ℕ). listBelow k f ++ t) end (drop-of-length-le d {i = j} (omega arith)) ∙ append-nil (listBelow n f)
 
--- the list of pending representatives is as long as it was
-pub length-collected : (n : ℕ) (f : ℕ → Bool) (d : List ℕ) → n ≤ length d → length (passing n f ++ drop (length (passing n f)) d) ≡ length d
-length-collected n f d h = omega (arith, length-append (passing n f) (drop (length (passing n f)) d), length-drop (length (passing n f)) d, passing-le n f)
+-- ---- a row in which state p is put in or taken out
+
+pub put-in : (row : List ℕ) (p : ℕ) {b : Bool} → length row ≡ 4 → b ≡ true → rowOf (length row) (λ x. eqb x p || inRow row x) ≡ rowOf 4 (λ x. cond (eqb x p) b (inRow row x))
+put-in row p {b} long e =
+    ap (λ (k : ℕ). rowOf k (λ x. eqb x p || inRow row x)) long
+    ∙ rowOf-cong 4 _ _ (λ x h. or-cond (eqb x p) (inRow row x) ∙ ap (λ (c : Bool). cond (eqb x p) c (inRow row x)) (sym e))
+  where
+    or-cond : (a c : Bool) → a || c ≡ cond a true c
+    or-cond true c = refl
+    or-cond false c = refl
+
+pub put-out : (row : List ℕ) (p : ℕ) {b : Bool} → length row ≡ 4 → b ≡ false → rowOf (length row) (λ x. not (eqb x p) && inRow row x) ≡ rowOf 4 (λ x. cond (eqb x p) b (inRow row x))
+put-out row p {b} long e =
+    ap (λ (k : ℕ). rowOf k (λ x. not (eqb x p) && inRow row x)) long
+    ∙ rowOf-cong 4 _ _ (λ x h. and-cond (eqb x p) (inRow row x) ∙ ap (λ (c : Bool). cond (eqb x p) c (inRow row x)) (sym e))
+  where
+    and-cond : (a c : Bool) → not a && c ≡ cond a false c
+    and-cond true c = refl
+    and-cond false c = refl
+
+-- ---- a row that is brought up to date at the states of A below n, ascending: before state q it is `updated q`
+
+module _ (A New : ℕ → Bool) (n : ℕ) (d : List ℕ) where
+  abbrev pub updated : ℕ → List ℕ
+  updated q = rowOf 4 (λ x. cond (statesBelow q (statesBelow n A) x) (New x) (inRow d x))
+
+  pub update-none : length d ≡ 4 → ((j : ℕ) → getD d j 0 < 2 ^ 64) → d ≡ updated 0
+  update-none long words = row-ext 4 _ d long words (λ x h. ap (λ (b : Bool). cond b (New x) (inRow d x)) (sym (states-out 0 (statesBelow n A) x (omega arith))))
+
+  pub update-skip : {bound from r : ℕ} → Next A bound from r → updated from ≡ updated r
+  update-skip {from = from} {r = r} next = rowOf-cong 4 _ _ (λ x h.
+      ap (λ (b : Bool). cond b (New x) (inRow d x)) (states-same (statesBelow n A) from r (next .above) (λ y l u. none y (next .none y l u)) x))
+    where
+      none : (y : ℕ) → A y ≡ false → statesBelow n A y ≡ false
+      none y e = ⊎-elim (λ (l : y < n). states-in n A y l ∙ e) (λ (l : n ≤ y). states-out n A y l) (lt-or-ge y n)
+
+  pub update-more : (q : ℕ) (row : List ℕ) → q < n → A q ≡ true → row ≡ updated q → rowOf 4 (λ x. cond (eqb x q) (New q) (inRow row x)) ≡ updated (q + 1)
+  update-more q row low e now = rowOf-cong 4 _ _ (λ x h.
+      ap (λ (b : Bool). cond (eqb x q) (New q) b) (ap (λ (l : List ℕ). inRow l x) now ∙ inRow-of 4 _ x h) ∙ turn x)
+    where
+      here : statesBelow n A q ≡ true
+      here = states-in n A q low ∙ e
+
+      turn : (x : ℕ) → cond (eqb x q) (New q) (cond (statesBelow q (statesBelow n A) x) (New x) (inRow d x)) ≡ cond (statesBelow (q + 1) (statesBelow n A) x) (New x) (inRow d x)
+      turn x =
+          ⊎-elim
+          (λ (h : x < q). rw (ne-eqb x q (λ e. omega arith), states-in q (statesBelow n A) x h, states-in (q + 1) (statesBelow n A) x (omega arith)))
+          (λ (h : q ≤ x). ⊎-elim
+          (λ (e : q ≡ x). rw (eq-eqb x q (sym e), states-in (q + 1) (statesBelow n A) x (omega arith), sym e, here))
+          (λ (l : q < x). rw (ne-eqb x q (λ e. omega arith), states-out q (statesBelow n A) x h, states-out (q + 1) (statesBelow n A) x (omega arith)))
+          (eq-or-lt-of-le h))
+          (lt-or-ge x q)
+
+  pub update-done : (q : ℕ) → n ≤ q → updated q ≡ rowOf 4 (λ x. cond (ltb x n && A x) (New x) (inRow d x))
+  update-done q h = rowOf-cong 4 _ _ (λ x l. ap (λ (b : Bool). cond b (New x) (inRow d x))
+      (⊎-elim (λ (m : x < q). states-in q (statesBelow n A) x m) (λ (m : q ≤ x). states-out q (statesBelow n A) x m ∙ sym (states-out n A x (omega arith))) (lt-or-ge x q)))
+
+-- a row that was right before is right again, if what it says changed at states of A alone
+pub update-right : (A Old New : ℕ → Bool) (n : ℕ) (d row : List ℕ) → n ≤ 256 → d ≡ rowOf 4 (statesBelow n Old) → ((x : ℕ) → x < n → A x ≡ false → Old x ≡ New x)
+    → row ≡ rowOf 4 (λ x. cond (ltb x n && A x) (New x) (inRow d x)) → row ≡ rowOf 4 (statesBelow n New)
+update-right A Old New n d row small before same now =
+    now ∙ rowOf-cong 4 _ _ (λ x h.
+    ap (λ (b : Bool). cond (ltb x n && A x) (New x) b) (ap (λ (l : List ℕ). inRow l x) before ∙ inRow-of 4 (statesBelow n Old) x h)
+    ∙ ⊎-elim (λ (l : x < n).
+    ap₂ (λ (a b : Bool). cond a (New x) b) (states-in n A x l) (states-in n Old x l) ∙ agree (A x) (same x l) ∙ sym (states-in n New x l))
+    (λ (l : n ≤ x). ap₂ (λ (a b : Bool). cond a (New x) b) (states-out n A x l) (states-out n Old x l) ∙ sym (states-out n New x l)) (lt-or-ge x n))
+  where
+    agree : (a : Bool) {b c : Bool} → (a ≡ false → b ≡ c) → cond a c b ≡ c
+    agree true e = refl
+    agree false e = e refl
 
 -- ---- the pending blocks of the refinement rule, by matrices
 
@@ -146,10 +219,7 @@ module _ (L : Lts) (s : Relations) (n : ℕ) (K W P : ℕ → ℕ → Bool) (siz
   unfolding anyState
   none-pending e t = omega (arith, passing-some (L .states) (pending L s) t, ap length passing-pending)
 
-  -- the representative at position e mod c of a list that begins with the c pending ones
-  pub chosen-is : (e : ℕ) (rest : List ℕ) → 0 < length (passing n (pendingIn n K W P))
-      → getD (passing n (pendingIn n K W P) ++ rest) (e % length (passing n (pendingIn n K W P))) 0 ≡ chosen L e s
+  -- the representative at position e mod c of the c pending ones
+  pub chosen-is : (e : ℕ) → getD (passing n (pendingIn n K W P)) (e % length (passing n (pendingIn n K W P))) 0 ≡ chosen L e s
   unfolding chosen
-  chosen-is e rest h =
-      List·getD-append (passing n (pendingIn n K W P)) rest 0 (e % length (passing n (pendingIn n K W P))) (mod-lt e h)
-      ∙ ap (λ (l : List ℕ). getD l (e % length l) 0) passing-pending
+  chosen-is e = ap (λ (l : List ℕ). getD l (e % length l) 0) passing-pending

@@ -4,14 +4,15 @@ use mathlib.Core.Bool.{Bool, true, false, cond}
 use mathlib.Core.List.{List, [], _∷_, _++_, append-assoc, append-nil}
 use mathlib.Core.Logic.{⊎-elim}
 use Prim.Native.Nat.{ℕ, zero, suc, _+_, _≤_, _<_, zero-le}
-use native.Mathlib.Nat.{le-refl, zero-lt-suc, eq-or-lt-of-le}
+use native.Mathlib.Nat.{le-refl, le-step, le-of-suc-le-suc, zero-lt-suc, add-zero, eq-or-lt-of-le}
 use native.Mathlib.Numerals.{add-one}
 use native.Mathlib.Omega.{arith}
 use lib.Dec.{eqb}
-use lib.ListN.{length, getD, set, drop, length-append}
-use lib.Seq.{drop-cons, set-append-seam}
+use lib.ListN.{length, getD, length-append, List·getD-append}
+use lib.Seq.{getD-append-add}
 use borrow.Author.Tests.{ne-eqb}
-use Rattle.lts.specs.Bounded.{passing, lowest}
+use Rattle.lts.specs.Bounded.{sumBelow, countBelow, passing, lowest}
+use Rattle.relation.specs.Matrix.{Next}
 use Rattle.relation.proofs.Bounded.{clash, lt-or-ge, lowestStep, lowest-le, lowest-at, lowest-before, lowest-shorter}
 
 -- ---- the passing numbers
@@ -22,14 +23,10 @@ passing-cong zero f g e = refl
 passing-cong (suc n) f g e =
     ap₂ (λ (l : List ℕ) (b : Bool). l ++ cond b (n ∷ []) []) (passing-cong n f g (λ i h. e i (omega arith))) (e n (le-refl (suc n)))
 
--- one number more, that passes or does not
+-- one number more, that passes
 pub passing-take : (f : ℕ → Bool) (p : ℕ) → f p ≡ true → passing (p + 1) f ≡ passing p f ++ (p ∷ [])
 unfolding passing
 passing-take f p e = rw (add-one, e)
-
-pub passing-skip : (f : ℕ → Bool) (p : ℕ) → f p ≡ false → passing (p + 1) f ≡ passing p f
-unfolding passing
-passing-skip f p e = rw (add-one, e) (append-nil (passing p f))
 
 pub passing-le : (n : ℕ) (f : ℕ → Bool) → length (passing n f) ≤ n
 unfolding passing
@@ -40,12 +37,64 @@ passing-le (suc n) f = omega (arith, length-append (passing n f) (cond (f n) (n 
     one true = le-refl 1
     one false = zero-le
 
--- ---- a loop that appends to what is written: the list is `xs ++ drop c d`, with c the length of xs
+-- they are as many as are counted
+pub length-passing : (n : ℕ) (f : ℕ → Bool) → length (passing n f) ≡ countBelow n f
+unfolding passing countBelow sumBelow
+length-passing zero f = refl
+length-passing (suc n) f = length-append (passing n f) (cond (f n) (n ∷ []) []) ∙ ap₂ (λ (a b : ℕ). a + b) (length-passing n f) (one (f n))
+  where
+    one : (b : Bool) → length (cond b (n ∷ []) []) ≡ cond b 1 0
+    one true = refl
+    one false = refl
 
-pub append-more : (xs d : List ℕ) (c v : ℕ) → c ≡ length xs → c < length d → set (xs ++ drop c d) c v ≡ (xs ++ (v ∷ [])) ++ drop (c + 1) d
-append-more xs d c v e h =
-    ap₂ (λ (l : List ℕ) (k : ℕ). set (xs ++ l) k v) (drop-cons d c 0 h) e ∙ set-append-seam xs (getD d c 0) (drop (suc c) d) v
-    ∙ sym (ap (λ (k : ℕ). (xs ++ (v ∷ [])) ++ drop k d) (add-one c) ∙ append-assoc xs (v ∷ []) (drop (suc c) d))
+-- from n on nothing passes
+pub passing-shorter : (n m : ℕ) (f : ℕ → Bool) → n ≤ m → ((i : ℕ) → n ≤ i → i < m → f i ≡ false) → passing m f ≡ passing n f
+unfolding passing
+passing-shorter n zero f h none = let e : 0 ≡ n = omega arith in ap (λ (k : ℕ). passing k f) e
+passing-shorter n (suc m) f h none =
+    ⊎-elim (λ (e : n ≡ suc m). ap (λ (k : ℕ). passing k f) (sym e))
+    (λ (l : n < suc m). ap (λ (b : Bool). passing m f ++ cond b (m ∷ []) []) (none m (le-of-suc-le-suc l) (le-refl (suc m))) ∙ append-nil (passing m f)
+    ∙ passing-shorter n m f (le-of-suc-le-suc l) (λ i a b. none i a (le-step b)))
+    (eq-or-lt-of-le h)
+
+-- a lower bound's list stands first in a higher one's
+pub passing-prefix : (n m : ℕ) (f : ℕ → Bool) → n ≤ m → (rest : List ℕ) × (passing m f ≡ passing n f ++ rest)
+unfolding passing
+passing-prefix n zero f h = let e : 0 ≡ n = omega arith in ([], ap (λ (k : ℕ). passing k f) e ∙ sym (append-nil (passing n f)))
+passing-prefix n (suc m) f h =
+    ⊎-elim (λ (e : n ≡ suc m). ([], ap (λ (k : ℕ). passing k f) (sym e) ∙ sym (append-nil (passing n f))))
+    (λ (l : n < suc m).
+    let low = passing-prefix n m f (le-of-suc-le-suc l) in
+    let end : List ℕ = cond (f m) (m ∷ []) [] in
+    (low .0 ++ end, ap (λ (x : List ℕ). x ++ end) (low .1) ∙ append-assoc (passing n f) (low .0) end))
+    (eq-or-lt-of-le h)
+
+pub passing-early : (n m : ℕ) (f : ℕ → Bool) (j : ℕ) → n ≤ m → j < length (passing n f) → getD (passing m f) j 0 ≡ getD (passing n f) j 0
+passing-early n m f j h l =
+    let low = passing-prefix n m f h in
+    ap (λ (x : List ℕ). getD x j 0) (low .1) ∙ List·getD-append (passing n f) (low .0) 0 j l
+
+pub passing-more : (n m : ℕ) (f : ℕ → Bool) → n ≤ m → length (passing n f) ≤ length (passing m f)
+passing-more n m f h =
+    let low = passing-prefix n m f h in
+    omega (arith, ap length (low .1), length-append (passing n f) (low .0))
+
+-- the place of a number that passes: as many pass below it
+pub passing-place : (n : ℕ) (f : ℕ → Bool) (x : ℕ) → x < n → f x ≡ true → getD (passing n f) (length (passing x f)) 0 ≡ x
+passing-place n f x h e =
+    let here = passing-take f x e in
+    let room : length (passing x f) < length (passing (x + 1) f) = omega (arith, ap length here, length-append (passing x f) (x ∷ [])) in
+    let up : x + 1 ≤ n = omega arith in
+    passing-early (x + 1) n f (length (passing x f)) up room
+    ∙ ap₂ (λ (l : List ℕ) (j : ℕ). getD l j 0) here (sym (add-zero (length (passing x f)))) ∙ getD-append-add (passing x f) (x ∷ []) 0 0
+
+-- a walk from one number that passes to the next: as many pass below `from` as below the next, and there is one where more pass
+pub next-place : (f : ℕ → Bool) (k from r i : ℕ) → Next f k from r → length (passing from f) ≡ i → i < length (passing k f)
+    → (r < k) × (f r ≡ true) × (length (passing r f) ≡ i)
+next-place f k from r i next e l =
+    let same : length (passing r f) ≡ i = ap length (passing-shorter from r f (next .above) (next .none)) ∙ e in
+    let low : r < k = ⊎-elim (λ (z : r ≡ k). absurd (omega (arith, l, same, ap (λ (x : ℕ). length (passing x f)) z))) (λ (m : r < k). m) (eq-or-lt-of-le (next .below)) in
+    (low, next .member low, same)
 
 -- ---- the lowest number that passes
 

@@ -1,39 +1,30 @@
 // The blocks of a relation as a bit matrix (row p is the block of p), their representatives, and the pending ones (document 01, "Turns").
 ghost use mathlib.Core.Path.{_≡_};
-ghost use mathlib.Core.Bool.{_&&_};
-ghost use mathlib.Core.List.{_++_};
+ghost use mathlib.Core.Bool.{cond, _&&_};
 ghost use Prim.Native.Nat.{_*_, _%_, _<_, _≤_};
-ghost use lib.Dec.{eqb};
-ghost use lib.ListN.{length, getD, drop};
+ghost use lib.Dec.{eqb, ltb};
+ghost use lib.ListN.{length, getD};
 ghost use Rattle.lts.specs.Bounded.{countBelow, passing, listBelow, lowest};
 ghost use Rattle.lts.specs.Refinement.{block};
-ghost use Rattle.relation.specs.Matrix.{rowOf, rowWords, statesBelow, relationOf, matrixOf, Matrix, setRow};
+ghost use Rattle.relation.specs.Matrix.{inRow, rowOf, rowWords, statesBelow, relationOf, matrixOf, Matrix, Row};
 ghost use Rattle.partition.specs.Pending.{pendingIn, Reflexive};
 
-// The states that are related to p.
-fn column(grid: &[u64], n: usize, p: usize) -> [u64; 4]
-    requires { ⌜ (n ≤ 256) × Matrix n (now grid) × (p < n) ⌝ }
-    ensures { λ r. ⌜ r ≡ rowOf 4 (statesBelow n (λ q. relationOf n (now (grid .entry)) q p)) ⌝ }
+// The block of p: the states that p is related to and that are related to p.
+fn block_of(related: &[u64], n: usize, p: usize) -> [u64; 4]
+    requires { ⌜ (n ≤ 256) × Matrix n (now related) × (p < n) ⌝ }
+    ensures { λ r. ⌜ r ≡ rowOf 4 (statesBelow n (block (relationOf n (now (related .entry))) p)) ⌝ }
 {
     let w = (n + 63) / 64;
+    let row = relation::row_at(related, n, p);
     let mut out = [0u64; 4];
-    let mut q = 0;
+    let mut q = relation::next_state(row, w, 0);
     while q < n {
-        if relation::has(grid, w, q, p) {
+        if relation::has(related, w, q, p) {
             relation::insert(&mut out, q);
         }
-        q += 1;
+        q = relation::next_state(row, w, q + 1);
     }
     out
-}
-
-// Takes out of row p the states that are not related to p.
-fn keep_block(related: &[u64], n: usize, p: usize, blocks: &mut [u64])
-    requires { ⌜ (n ≤ 256) × Matrix n (now related) × Matrix n (now blocks) × (p < n) ⌝ }
-    ensures { λ _. ⌜ now (blocks .exit) ≡ matrixOf n (setRow p (λ q. relationOf n (now (blocks .entry)) p q && relationOf n (now (related .entry)) q p) (relationOf n (now (blocks .entry)))) ⌝ }
-{
-    let into = column(related, n, p);
-    relation::keep_states(blocks, n, p, &into);
 }
 
 // Writes each state's block into its row.
@@ -44,7 +35,8 @@ pub fn write_blocks(related: &[u64], n: usize, blocks: &mut [u64])
     relation::copy_matrix(blocks, related);
     let mut p = 0;
     while p < n {
-        keep_block(related, n, p, blocks);
+        let members = block_of(related, n, p);
+        relation::set_row(blocks, n, p, &members);
         p += 1;
     }
 }
@@ -55,39 +47,75 @@ fn is_pending(related: &[u64], viewed: &[u64], blocks: &[u64], n: usize, p: usiz
     ensures { λ r. ⌜ r ≡ pendingIn n (relationOf n (now (related .entry))) (relationOf n (now (viewed .entry))) (relationOf n (now (blocks .entry))) p ⌝ }
 {
     let w = (n + 63) / 64;
-    let low = relation::lowest_state(relation::row_at(blocks, n, p), w);
-    let far = relation::row_differs(
+    if !relation::row_differs(
         relation::row_at(viewed, n, p),
         relation::row_at(related, n, p),
         w,
-    );
-    (low == p) & far
+    ) {
+        return false;
+    }
+    let low = relation::lowest_state(relation::row_at(blocks, n, p), w);
+    low == p
 }
 
-// Lists the representatives of the pending blocks, ascending; how many there are.
-pub fn collect_pending(
+// Brings the set of pending representatives up to date at p.
+fn update_at(
     related: &[u64],
     viewed: &[u64],
     blocks: &[u64],
     n: usize,
-    list: &mut [u16; 256],
-) -> usize
-    requires { ⌜ (n ≤ 256) × Matrix n (now related) × Matrix n (now viewed) × Matrix n (now blocks) × (n ≤ length (now list)) ⌝ }
-    ensures { λ r. ⌜ r ≡ length (passing n (pendingIn n (relationOf n (now (related .entry))) (relationOf n (now (viewed .entry))) (relationOf n (now (blocks .entry))))) ⌝ }
-    ensures { λ r. ⌜ now (list .exit) ≡ passing n (pendingIn n (relationOf n (now (related .entry))) (relationOf n (now (viewed .entry))) (relationOf n (now (blocks .entry)))) ++ drop r (now (list .entry)) ⌝ }
+    p: usize,
+    pending: &mut [u64],
+)
+    requires { ⌜ (n ≤ 256) × Matrix n (now related) × Matrix n (now viewed) × Matrix n (now blocks) × (p < n) × (length (now pending) ≡ 4) ⌝ }
+    ensures { λ _. ⌜ now (pending .exit) ≡ rowOf 4 (λ x. cond (eqb x p) (pendingIn n (relationOf n (now (related .entry))) (relationOf n (now (viewed .entry))) (relationOf n (now (blocks .entry))) p) (inRow (now (pending .entry)) x)) ⌝ }
 {
-    let mut c = 0;
-    let mut p = 0;
-    while p < n {
-        if is_pending(related, viewed, blocks, n, p) {
-            list[c] = p as u16;
-            c += 1;
-            p += 1;
-        } else {
-            p += 1;
-        }
+    if is_pending(related, viewed, blocks, n, p) {
+        relation::insert(pending, p);
+    } else {
+        relation::remove(pending, p);
     }
-    c
+}
+
+// Brings the set of pending representatives up to date at the states of `touched`.
+pub fn update_pending(
+    related: &[u64],
+    viewed: &[u64],
+    blocks: &[u64],
+    n: usize,
+    touched: &[u64; 4],
+    pending: &mut [u64],
+)
+    requires { ⌜ (n ≤ 256) × Matrix n (now related) × Matrix n (now viewed) × Matrix n (now blocks) × (length (now pending) ≡ 4) ⌝ }
+    ensures { λ _. ⌜ now (pending .exit) ≡ rowOf 4 (λ p. cond (ltb p n && inRow (now (touched .entry)) p) (pendingIn n (relationOf n (now (related .entry))) (relationOf n (now (viewed .entry))) (relationOf n (now (blocks .entry))) p) (inRow (now (pending .entry)) p)) ⌝ }
+{
+    let mut p = relation::next_state(touched, 4, 0);
+    while p < n {
+        update_at(related, viewed, blocks, n, p, pending);
+        p = relation::next_state(touched, 4, p + 1);
+    }
+}
+
+// How many states the set of pending representatives has.
+pub fn count_pending(pending: &[u64; 4], n: usize) -> usize
+    requires { ⌜ (n ≤ 256) × Row n (now pending) ⌝ }
+    ensures { λ r. ⌜ r ≡ length (passing n (inRow (now (pending .entry)))) ⌝ }
+{
+    relation::row_count(pending, (n + 63) / 64)
+}
+
+// Number j, ascending, of the states in the row's first k words.
+fn member_at(row: &[u64], k: usize, j: usize) -> usize
+    requires { ⌜ (k ≤ length (now row)) × (k ≤ 1024) × (j < length (passing (k * 64) (inRow (now row)))) ⌝ }
+    ensures { λ r. ⌜ r ≡ getD (passing (k * 64) (inRow (now (row .entry)))) j 0 ⌝ }
+{
+    let mut x = relation::next_state(row, k, 0);
+    let mut i = 0;
+    while i < j {
+        x = relation::next_state(row, k, x + 1);
+        i += 1;
+    }
+    x
 }
 
 fn wide(x: u16) -> usize
@@ -96,17 +124,17 @@ fn wide(x: u16) -> usize
     x as usize
 }
 
-// The pending representative that number `step` of the schedule chooses, or 0 when the schedule is used up.
-pub fn next_block(list: &[u16; 256], c: usize, schedule: &[u16], step: usize) -> usize
-    requires { ⌜ (0 < c) × (c ≤ 256) ⌝ }
-    ensures { λ r. ⌜ r ≡ getD (now (list .entry)) (getD (now (schedule .entry)) step 0 % c) 0 ⌝ }
+// The pending representative that number `step` of the schedule chooses, or number 0 when the schedule is used up.
+pub fn next_block(pending: &[u64; 4], n: usize, c: usize, schedule: &[u16], step: usize) -> usize
+    requires { ⌜ (n ≤ 256) × (0 < c) × (c ≡ length (passing n (inRow (now pending)))) ⌝ }
+    ensures { λ r. ⌜ r ≡ getD (passing n (inRow (now (pending .entry)))) (getD (now (schedule .entry)) step 0 % c) 0 ⌝ }
 {
+    let w = (n + 63) / 64;
     if step < schedule.len() {
         let e = wide(schedule[step]);
-        let at = e % c;
-        return wide(list[at]);
+        return member_at(pending, w, e % c);
     }
-    wide(list[0])
+    member_at(pending, w, 0)
 }
 
 // How many blocks there are: the states that are their block's lowest.

@@ -26,6 +26,19 @@ ones-count (suc k) {x} h =
     ∙ ap₂ (λ (a b : ℕ). a + b) (sym (digit-bit x)) (ones-count k half ∙ sum-cong k _ _ (λ i l. ap digit (sym (bit-suc x i))))
     ∙ sym (sum-cons k (λ i. digit (bit x i)))
 
+-- ---- the bits of a row's words, word by word, and its states; from n on there is none
+
+pub bits-states : (k : ℕ) (row : List ℕ) → sumBelow k (λ c. countBelow 64 (bit (getD row c 0))) ≡ countBelow (k * 64) (inRow row)
+unfolding countBelow
+bits-states k row = sum-cong k _ _ (λ c hc. sum-cong 64 _ _ (λ i l. ap digit (sym (inRow-at row c i l)))) ∙ sym (sum-mul k 64 (λ q. digit (inRow row q)))
+
+pub count-shorter : (n m : ℕ) (f : ℕ → Bool) → n ≤ m → ((i : ℕ) → n ≤ i → i < m → f i ≡ false) → countBelow m f ≡ countBelow n f
+unfolding countBelow
+count-shorter n m f h rest =
+    let room : m ≡ n + (m - n) = omega arith in
+    ap (λ (k : ℕ). countBelow k f) room ∙ sum-add n (m - n) (λ i. digit (f i))
+    ∙ ap (λ (x : ℕ). countBelow n f + x) (sum-zero (m - n) _ (λ i l. ap digit (rest (n + i) (omega arith) (omega (arith, l))))) ∙ add-zero (countBelow n f)
+
 -- ---- the bits of a matrix's words, word by word, and its pairs
 
 pub bits-pairs : (n : ℕ) (g : List ℕ) → Matrix n g → sumBelow (n * rowWords n) (λ j. countBelow 64 (bit (getD g j 0))) ≡ pairCount n (relationOf n g)
@@ -35,16 +48,10 @@ bits-pairs n g ok =
     ∙ sum-cong n _ _ (λ p hp.
     sum-cong w _ _ (λ c hc. sum-cong 64 _ _ (λ i l. ap digit (sym (inMatrix-at w g p c i l))))
     ∙ sym (sum-mul w 64 (λ q. digit (relationOf n g p q)))
-    ∙ ap (λ (k : ℕ). countBelow k (relationOf n g p)) room
-    ∙ sum-add n (w * 64 - n) (λ q. digit (relationOf n g p q))
-    ∙ ap (λ (x : ℕ). countBelow n (relationOf n g p) + x) (sum-zero (w * 64 - n) _ (λ i h. ap digit (ok .clear p (n + i) hp (omega arith) (omega (arith, h)))))
-    ∙ add-zero (countBelow n (relationOf n g p)))
+    ∙ count-shorter n (w * 64) (relationOf n g p) (omega arith) (λ q l r. ok .clear p q hp l r))
   where
     w : ℕ
     w = rowWords n
-
-    room : w * 64 ≡ n + (w * 64 - n)
-    room = omega arith
 
 -- ---- the trailing zeros of a word
 

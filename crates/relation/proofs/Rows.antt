@@ -132,43 +132,58 @@ zip-more op β ok d mask row c now l hr hm =
     ok .bits _ _ i hr hm h
     ∙ ap₂ β (ap (λ (x : ℕ). bit x i) (row-unread _ d row c now) ∙ sym (inRow-at d c i h)) (sym (inRow-at mask c i h)))
 
--- ---- one state more in a row: `row[q / 64] | 1 << q % 64`
+-- ---- a row of which word q / 64 is written anew: S is the row's set but at q
 
-pub row-insert : (row : List ℕ) (q : ℕ) → q / 64 < length row → ((j : ℕ) → getD row j 0 < 2 ^ 64)
-    → set row (q / 64) (bitOr (getD row (q / 64) 0) (1 * 2 ^ (q % 64) % 2 ^ 64)) ≡ rowOf (length row) (λ x. eqb x q || inRow row x)
-row-insert row q h words =
+same : (a b : ℕ) → (a ≡ b) ⊎ (a ≡ b → ⊥)
+same a b = ⊎-elim (λ (l : a < b). inr (λ e. omega arith)) (λ (l : b ≤ a). ⊎-elim (λ e. inl (sym e)) (λ (m : b < a). inr (λ e. omega arith)) (eq-or-lt-of-le l)) (lt-or-ge a b)
+
+pub row-change : (row : List ℕ) (q v : ℕ) (S : ℕ → Bool) → q / 64 < length row → ((j : ℕ) → getD row j 0 < 2 ^ 64)
+    → ((x : ℕ) → (x ≡ q → ⊥) → S x ≡ inRow row x) → v < 2 ^ 64 → ((i : ℕ) → i < 64 → bit v i ≡ S (q / 64 * 64 + i))
+    → set row (q / 64) v ≡ rowOf (length row) S
+row-change row q v S h words others small bits =
     list-ext (length row) (wordAt S) (set row (q / 64) v) (length-set row (q / 64) v) (λ j l.
-    ⊎-elim (λ (e : j ≡ q / 64). ap (λ (k : ℕ). getD (set row (q / 64) v) k 0) e ∙ getD-set-same row (q / 64) v 0 h ∙ here ∙ ap (wordAt S) (sym e))
+    ⊎-elim (λ (e : j ≡ q / 64). ap (λ (k : ℕ). getD (set row (q / 64) v) k 0) e ∙ getD-set-same row (q / 64) v 0 h ∙ word-at S (q / 64) small bits ∙ ap (wordAt S) (sym e))
     (λ (ne : j ≡ q / 64 → ⊥). getD-set-other row (q / 64) j v 0 ne ∙ word-at S j (words j) (λ i k.
-    sym (inRow-at row j i k) ∙ sym (ap (λ (b : Bool). b || inRow row (j * 64 + i)) (ne-eqb (j * 64 + i) q (λ e. ne (omega arith)))))) (same j (q / 64)))
-  where
-    S : ℕ → Bool
-    S x = eqb x q || inRow row x
+    sym (inRow-at row j i k) ∙ sym (others (j * 64 + i) (λ e. ne (omega arith))))) (same j (q / 64)))
 
-    v : ℕ
-    v = bitOr (getD row (q / 64) 0) (1 * 2 ^ (q % 64) % 2 ^ 64)
+-- ---- one state more in a row, or one less: `row[q / 64] | 1 << q % 64`, `row[q / 64] & !(1 << q % 64)`
 
-    low : q % 64 < 64
-    low = mod-lt q (omega arith)
+module _ (row : List ℕ) (q : ℕ) (h : q / 64 < length row) (words : (j : ℕ) → getD row j 0 < 2 ^ 64) where
+  abbrev word : ℕ
+  word = getD row (q / 64) 0
 
-    same : (a b : ℕ) → (a ≡ b) ⊎ (a ≡ b → ⊥)
-    same a b = ⊎-elim (λ (l : a < b). inr (λ e. omega arith)) (λ (l : b ≤ a). ⊎-elim (λ e. inl (sym e)) (λ (m : b < a). inr (λ e. omega arith)) (eq-or-lt-of-le l)) (lt-or-ge a b)
+  abbrev one : ℕ
+  one = 1 * 2 ^ (q % 64) % 2 ^ 64
 
-    swap : (a b : Bool) → a || b ≡ b || a
-    swap true true = refl
-    swap true false = refl
-    swap false true = refl
-    swap false false = refl
+  one-small : one < 2 ^ 64
+  one-small = mod-lt (1 * 2 ^ (q % 64)) (pow-pos 64)
 
-    place : (i : ℕ) → i < 64 → eqb i (q % 64) ≡ eqb (q / 64 * 64 + i) q
-    place i l = ⊎-elim (λ (e : i ≡ q % 64). eq-eqb i (q % 64) e ∙ sym (eq-eqb (q / 64 * 64 + i) q (omega arith)))
-        (λ ne. ne-eqb i (q % 64) ne ∙ sym (ne-eqb (q / 64 * 64 + i) q (λ e. ne (omega arith)))) (same i (q % 64))
+  bit-one : (i : ℕ) → i < 64 → bit one i ≡ eqb (q / 64 * 64 + i) q
+  bit-one i l =
+      ap (λ (x : ℕ). bit x i) (one-shl (q % 64) (mod-lt q (omega arith))) ∙ bit-pow (q % 64) i
+      ∙ ⊎-elim (λ (e : i ≡ q % 64). eq-eqb i (q % 64) e ∙ sym (eq-eqb (q / 64 * 64 + i) q (omega arith)))
+      (λ ne. ne-eqb i (q % 64) ne ∙ sym (ne-eqb (q / 64 * 64 + i) q (λ e. ne (omega arith)))) (same i (q % 64))
 
-    here : v ≡ wordAt S (q / 64)
-    here = word-at S (q / 64) (or-lt 64 _ _ (words (q / 64)) (mod-lt (1 * 2 ^ (q % 64)) (pow-pos 64))) (λ i l.
-        bit-or (getD row (q / 64) 0) (1 * 2 ^ (q % 64) % 2 ^ 64) i
-        ∙ ap₂ _||_ (sym (inRow-at row (q / 64) i l)) (ap (λ (x : ℕ). bit x i) (one-shl (q % 64) low) ∙ bit-pow (q % 64) i ∙ place i l)
-        ∙ swap (inRow row (q / 64 * 64 + i)) (eqb (q / 64 * 64 + i) q))
+  pub row-insert : set row (q / 64) (bitOr word one) ≡ rowOf (length row) (λ x. eqb x q || inRow row x)
+  row-insert = row-change row q (bitOr word one) _ h words (λ x ne. ap (λ (b : Bool). b || inRow row x) (ne-eqb x q ne)) (or-lt 64 _ _ (words (q / 64)) one-small) (λ i l.
+      bit-or word one i ∙ ap₂ _||_ (sym (inRow-at row (q / 64) i l)) (bit-one i l) ∙ swap (inRow row (q / 64 * 64 + i)) (eqb (q / 64 * 64 + i) q))
+    where
+      swap : (a b : Bool) → a || b ≡ b || a
+      swap true true = refl
+      swap true false = refl
+      swap false true = refl
+      swap false false = refl
+
+  pub row-remove : set row (q / 64) (bitAnd word ((2 ^ 64 - 1) - one)) ≡ rowOf (length row) (λ x. not (eqb x q) && inRow row x)
+  row-remove = row-change row q (bitAnd word ((2 ^ 64 - 1) - one)) _ h words (λ x ne. ap (λ (b : Bool). not b && inRow row x) (ne-eqb x q ne)) (minus-bitwise .small _ _ (words (q / 64)) one-small) (λ i l.
+      minus-bitwise .bits word one i (words (q / 64)) one-small l
+      ∙ ap₂ (λ (a b : Bool). a && not b) (sym (inRow-at row (q / 64) i l)) (bit-one i l) ∙ swap (inRow row (q / 64 * 64 + i)) (eqb (q / 64 * 64 + i) q))
+    where
+      swap : (a b : Bool) → a && not b ≡ not b && a
+      swap true true = refl
+      swap true false = refl
+      swap false true = refl
+      swap false false = refl
 
 or-false : (b : Bool) → b || false ≡ b
 or-false true = refl

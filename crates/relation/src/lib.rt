@@ -5,7 +5,7 @@ ghost use mathlib.Core.List.{_++_};
 ghost use Prim.Native.Nat.{_+_, _*_, _/_, _%_, _<_, _≤_};
 ghost use lib.Dec.{eqb};
 ghost use lib.ListN.{length, drop};
-ghost use Rattle.lts.specs.Bounded.{_⇒_, anyBelow, lowest};
+ghost use Rattle.lts.specs.Bounded.{_⇒_, anyBelow, countBelow, lowest};
 ghost use Rattle.lts.specs.Table.{markedSet};
 ghost use Rattle.relation.specs.Matrix.{digit, inRow, inMatrix, wordAt, rowOf, rowWords, statesBelow, matrixOf, relationOf, Matrix, Row, pairCount, setRow, withoutStates, Next};
 ghost use Rattle.relation.specs.Check.{includedBelow, withinBelow, reflexiveBelow, transitivePair, transitiveAt, transitiveBelow, clearAt, isMatrix, checkPreorder, terminationRow};
@@ -59,6 +59,29 @@ pub fn insert(row: &mut [u64], q: usize)
 {
     let c = q / 64;
     row[c] = row[c] | (1 << (q % 64));
+}
+
+// Takes state q out of a row.
+pub fn remove(row: &mut [u64], q: usize)
+    requires { ⌜ q / 64 < length (now row) ⌝ }
+    ensures { λ _. ⌜ now (row .exit) ≡ rowOf (length (now (row .entry))) (λ x. not (eqb x q) && inRow (now (row .entry)) x) ⌝ }
+{
+    let c = q / 64;
+    row[c] = row[c] & !(1 << (q % 64));
+}
+
+// How many states the row has in its first k words.
+pub fn row_count(row: &[u64], k: usize) -> usize
+    requires { ⌜ (k ≤ length (now row)) × (k ≤ 1024) ⌝ }
+    ensures { λ r. ⌜ r ≡ countBelow (k * 64) (inRow (now (row .entry))) ⌝ }
+{
+    let mut total: usize = 0;
+    let mut c = 0;
+    while c < k {
+        total += u64::count_ones(row[c]) as usize;
+        c += 1;
+    }
+    total
 }
 
 // Writes the states of the first k words of `from` into the row.

@@ -1,12 +1,18 @@
-use mathlib.Core.Path.{sym, ap, _∙_}
-use Prim.Native.Nat.{ℕ, _<_, _%_}
+use mathlib.Core.Path.{_≡_, sym, ap, _∙_}
+use Prim.Native.Nat.{ℕ, _*_, _<_, _≤_, _%_}
 use native.Mathlib.Nat.{mod-lt, zero-mod}
 use native.Mathlib.Omega.{arith}
-use lib.ListN.{getD, List·getD-eq-default}
+use lib.ListN.{length, getD, List·getD-eq-default}
 use denote.Ref.{now}
+use Rattle.lts.specs.Bounded.{passing}
+use Rattle.relation.specs.Matrix.{inRow, rowWords}
+use Rattle.partition.proofs.Passing.{passing-early, passing-more}
 use borrow.Author.Needs.{needs}
 use Rattle.partition.proofs.next_block.Statement.{statement}
 use Rattle.partition.proofs.next_block.Tie as tie
+
+add-w : tie.Need-add-w
+add-w c = search needs
 
 mul-wide : tie.Need-mul-wide
 mul-wide c = search needs
@@ -17,52 +23,62 @@ shared-slice-read-wide c = search needs
 wide-requires : tie.Need-wide-requires
 wide-requires c κs = search needs
 
-rem-at : tie.Need-rem-at
-rem-at c = search needs
+rem-member-at : tie.Need-rem-member-at
+rem-member-at c = search needs
+
+-- a number below c stands in the list, and in that of the row's words
+module _ (start : tie.Start) (j : ℕ) (low : j < start .args .c) where
+  abbrev n : ℕ
+  n = start .args .n
+
+  abbrev words : ℕ
+  words = rowWords n * 64
+
+  room : n ≤ words
+  room = omega arith
+
+  listed : j < length (passing n (inRow (now (start .args .pending))))
+  listed = omega (arith, low, start .pre .2)
+
+  within : j < length (passing words (inRow (now (start .args .pending))))
+  within = omega (arith, listed, passing-more n words (inRow (now (start .args .pending))) room)
+
+  same : getD (passing words (inRow (now (start .args .pending)))) j 0 ≡ getD (passing n (inRow (now (start .args .pending)))) j 0
+  same = passing-early n words (inRow (now (start .args .pending))) j room listed
 
 position : (c : tie.After-wide) → c .wide .result % c .before .before .before .before .args .c < c .before .before .before .before .args .c
-position c = mod-lt (c .wide .result) (c .before .before .before .before .pre .0)
+position c = mod-lt (c .wide .result) (c .before .before .before .before .pre .1)
 
-mul-wide-2 : tie.Need-mul-wide-2
-mul-wide-2 c = omega (arith, position c)
-
-element-copy-out-wide : tie.Need-element-copy-out-wide
-element-copy-out-wide c = omega (arith, position c)
-
-wide-requires-2 : tie.Need-wide-requires-2
-wide-requires-2 c κs = search needs
+member-at-requires : tie.Need-member-at-requires
+member-at-requires c κs = (search needs, search needs, within (c .before .before .before .before .before) _ (position (c .before)))
 
 returns : tie.Need-returns
 returns c =
-    let a = c .before .before .before .before .before .before .args in
-    c .wide2 .ensures ∙ ap (λ (x : ℕ). getD (now (a .list)) (x % a .c) 0) (c .before .before .wide .ensures)
+    let start = c .before .before .before .before .before .before in
+    c .member-at .ensures ∙ same start _ (position (c .before .before))
+    ∙ ap (λ (x : ℕ). getD (passing (start .args .n) (inRow (now (start .args .pending)))) (x % start .args .c) 0) (c .before .before .wide .ensures)
 
-element-copy-out-wide-2 : tie.Need-element-copy-out-wide-2
-element-copy-out-wide-2 c = search needs
-
-wide-requires-3 : tie.Need-wide-requires-3
-wide-requires-3 c κs = search needs
+member-at-requires-2 : tie.Need-member-at-requires-2
+member-at-requires-2 c κs = let start = c .before .before .before in (search needs, search needs, within start 0 (start .pre .1))
 
 returns-2 : tie.Need-returns-2
 returns-2 c =
     let start = c .before .before .before .before in
     let a = start .args in
-    c .wide3 .ensures
-    ∙ sym (ap (λ (x : ℕ). getD (now (a .list)) (x % a .c) 0) (List·getD-eq-default (now (a .schedule)) 0 (c .before .before .if1 .left))
-    ∙ ap (λ (x : ℕ). getD (now (a .list)) x 0) (zero-mod (a .c)))
+    c .member-at2 .ensures ∙ same start 0 (start .pre .1)
+    ∙ sym (ap (λ (x : ℕ). getD (passing (a .n) (inRow (now (a .pending)))) (x % a .c) 0) (List·getD-eq-default (now (a .schedule)) 0 (c .before .before .if1 .left))
+    ∙ ap (λ (x : ℕ). getD (passing (a .n) (inRow (now (a .pending)))) x 0) (zero-mod (a .c)))
 
 pub next-block-spec : {M : Type 1} → statement M
 next-block-spec =
     tie.close
     (tie.spec
+    add-w
     mul-wide
     shared-slice-read-wide
     wide-requires
-    rem-at
-    mul-wide-2
-    element-copy-out-wide
-    wide-requires-2
+    rem-member-at
+    member-at-requires
     returns
-    element-copy-out-wide-2
-    wide-requires-3
+    member-at-requires-2
     returns-2)

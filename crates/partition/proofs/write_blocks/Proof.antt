@@ -5,8 +5,9 @@ use lib.ListN.{length}
 use denote.Ref.{now}
 use Rattle.lts.specs.Refinement.{block}
 use Rattle.relation.specs.Matrix.{relationOf, matrixOf, rowsOf}
+use Rattle.relation.proofs.Bounded.{length-listBelow}
 use Rattle.relation.proofs.Matrices.{matrix-relation, length-matrixOf, formed-of, done-none, done-all}
-use Rattle.partition.proofs.Laws.{block-row}
+use Rattle.partition.proofs.Laws.{block-row, states-row}
 use borrow.Author.Needs.{needs}
 use Rattle.partition.proofs.write_blocks.Statement.{statement}
 use Rattle.partition.proofs.write_blocks.Tie as tie
@@ -28,11 +29,19 @@ loop-holds c =
           ∙ matrix-relation _ _ (start .pre .1) (λ j. c .before .before .before .before .before .shared-slice-known .given j .fits) ∙ done-none _ _ _,
     )
 
-keep-block-requires : tie.Need-keep-block-requires Inv-loop μ-loop
-keep-block-requires c κs =
-    let at = c .before .before in
+block-of-requires : tie.Need-block-of-requires Inv-loop μ-loop
+block-of-requires c κs =
+    let start = c .before .before .before .before .before .before .before .before in
+    (start .pre .0, start .pre .1, c .loop-test .taken)
+
+slice-aggregate-set-row : tie.Need-slice-aggregate-set-row Inv-loop μ-loop
+slice-aggregate-set-row c = sym (ap length (c .before .before .block-of .ensures) ∙ length-listBelow 4 _)
+
+set-row-requires : tie.Need-set-row-requires Inv-loop μ-loop
+set-row-requires c κs =
+    let at = c .before .before .before .before in
     let start = at .before .before .before .before .before .before .before in
-    (start .pre .0, start .pre .1, formed-of _ _ (at .loop .inv .1), c .before .loop-test .taken)
+    (formed-of _ _ (at .loop .inv .1), start .pre .0, c .before .before .before .loop-test .taken, states-row (start .args .n) _ (start .pre .0) (c .before .before .block-of .ensures))
 
 add-p : tie.Need-add-p Inv-loop μ-loop
 add-p c = search needs
@@ -42,11 +51,12 @@ loop-less c = search needs
 
 loop-again : tie.Need-loop-again Inv-loop μ-loop
 loop-again c =
-    let at = c .before .before .before .before .before in
-    let a = at .before .before .before .before .before .before .before .args in (
+    let at = c .before .before .before .before .before .before .before in
+    let start = at .before .before .before .before .before .before .before in
+    let a = start .args in (
       search needs,
-      c .before .before .keep-block .ensures
-          ∙ block-row (a .n) (relationOf (a .n) (now (a .related))) (at .loop .p) (at .loop .blocks) (c .before .before .before .before .loop-test .taken) (at .loop .inv .1),
+      c .before .before .set-row .ensures
+          ∙ block-row (a .n) (relationOf (a .n) (now (a .related))) (at .loop .p) (at .loop .blocks) _ (start .pre .0) (at .loop .inv .1) (c .before .before .before .before .before .block-of .ensures),
     )
 
 same-length : tie.Need-same-length Inv-loop μ-loop
@@ -63,7 +73,9 @@ write-blocks-spec =
     μ-loop
     copy-matrix-requires
     loop-holds
-    keep-block-requires
+    block-of-requires
+    slice-aggregate-set-row
+    set-row-requires
     add-p
     loop-less
     loop-again
