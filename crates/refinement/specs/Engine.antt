@@ -1,19 +1,20 @@
 -- What the engine's own functions say of each other: relations held by matrices.
-use Prim.Native.Nat.{ℕ, zero, suc, _<_}
+use Prim.Native.Nat.{ℕ, zero, suc, _*_, _<_}
+use mathlib.Core.Logic.{_⊎_}
 use mathlib.Core.Path.{_≡_}
 use mathlib.Core.Bool.{false, not, _&&_}
 use mathlib.Core.List.{List}
 use lib.Dec.{T}
 use lib.ListN.{length}
-use Rattle.lts.specs.Bounded.{restrict}
+use Rattle.lts.specs.Bounded.{restrict, countBelow}
 use Rattle.lts.specs.System.{Rel, Lts}
 use Rattle.lts.specs.Refinement.{Relations, block, refine, eachAction, stepOf}
 use Rattle.lts.specs.Table.{tableLts}
 use Rattle.lts.proofs.Refine.{Blocks}
 use Rattle.lts.proofs.Run.{Reached}
-use Rattle.predecessors.specs.Sources.{actionSet, removeSet}
+use Rattle.predecessors.specs.Sources.{Numbers, Linked, sourcesInto, actionSet, removeSet}
 use Rattle.splitting.specs.Split.{splitBlocks, refinedRelated}
-use Rattle.relation.specs.Matrix.{inRow, relationOf, matrixOf, Matrix}
+use Rattle.relation.specs.Matrix.{inRow, rowOf, relationOf, matrixOf, Matrix}
 
 -- the relations that the matrices of K and V hold
 unfoldable pub heldBy : ℕ → List ℕ → Rel
@@ -48,6 +49,18 @@ pub record Untouched (n : ℕ) (related blocks touched related′ blocks′ touc
   pub grows : (g : ℕ) → g < n → inRow touched′ g ≡ false → inRow touched g ≡ false
   pub related-same : (g h : ℕ) → g < n → h < n → inRow touched′ g ≡ false → relationOf n related′ g h ≡ relationOf n related g h
   pub blocks-same : (g h : ℕ) → g < n → h < n → inRow touched′ g ≡ false → relationOf n blocks′ g h ≡ relationOf n blocks g h
+
+-- After a step K, V and the blocks have, at each state outside `touched`, the rows that they had before it.
+pub record Unmoved (n : ℕ) (touched related viewed blocks related′ viewed′ blocks′ : List ℕ) : Type 0 where
+  pub related-same : (g h : ℕ) → g < n → h < n → inRow touched g ≡ false → relationOf n related′ g h ≡ relationOf n related g h
+  pub viewed-same : (g h : ℕ) → g < n → h < n → inRow touched g ≡ false → relationOf n viewed′ g h ≡ relationOf n viewed g h
+  pub blocks-same : (g h : ℕ) → g < n → h < n → inRow touched g ≡ false → relationOf n blocks′ g h ≡ relationOf n blocks g h
+
+-- the sets are those of the sources into `outside`, or the given ones where `seen` has n states
+abbrev pub IntoOutside : ℕ → List ℕ → List ℕ → List ℕ → List ℕ → List ℕ → List ℕ → List ℕ → List ℕ → Type 0
+IntoOutside n sources actions head link enabled seen outside r =
+    ((countBelow (4 * 64) (inRow seen) ≡ n) × (r ≡ enabled))
+    ⊎ ((k : ℕ) (targets : List ℕ) → Numbers k sources actions targets → Linked k targets head link → r ≡ rowOf 260 (sourcesInto k sources actions targets (inRow outside)))
 
 -- K has blocks after each action of the step of p's block
 pub record Steady (L : Lts) (p : ℕ) (s : Relations) : Type 0 where
