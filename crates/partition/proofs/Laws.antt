@@ -15,7 +15,7 @@ use Rattle.lts.specs.Refinement.{Relations, block, representative, isRepresenta
 use Rattle.lts.proofs.Bounded.{any-iff}
 use Rattle.lts.proofs.Count.{passing-at, passing-some}
 use Rattle.relation.specs.Matrix.{wordOf, wordAt, inRow, rowOf, rowWords, statesBelow, relationOf, matrixOf, Matrix, Row, Next, setRow, rowsOf}
-use Rattle.relation.proofs.Bounded.{lt-or-ge, any-cong, sum-cong, length-listBelow, listBelow-cong, lowest-cong}
+use Rattle.relation.proofs.Bounded.{clash, lt-or-ge, any-cong, sum-cong, length-listBelow, listBelow-cong, lowest-cong}
 use Rattle.relation.proofs.Rows.{rowOf-cong, row-ext, inRow-of}
 use Rattle.relation.proofs.Matrices.{inRow-drop, row-long, relation-of, states-in, states-out, set-here, set-other, done-more}
 use Rattle.partition.proofs.Passing.{passing-cong, lowest-agree, lowest-test}
@@ -163,9 +163,9 @@ module _ (A New : ℕ → Bool) (n : ℕ) (d : List ℕ) where
       (⊎-elim (λ (m : x < q). states-in q (statesBelow n A) x m) (λ (m : q ≤ x). states-out q (statesBelow n A) x m ∙ sym (states-out n A x (omega arith))) (lt-or-ge x q)))
 
 -- a row that was right before is right again, if what it says changed at states of A alone
-pub update-right : (A Old New : ℕ → Bool) (n : ℕ) (d row : List ℕ) → n ≤ 256 → d ≡ rowOf 4 (statesBelow n Old) → ((x : ℕ) → x < n → A x ≡ false → Old x ≡ New x)
+pub update-right : (A Old New : ℕ → Bool) (n : ℕ) (d row : List ℕ) → d ≡ rowOf 4 (statesBelow n Old) → ((x : ℕ) → x < n → A x ≡ false → Old x ≡ New x)
     → row ≡ rowOf 4 (λ x. cond (ltb x n && A x) (New x) (inRow d x)) → row ≡ rowOf 4 (statesBelow n New)
-update-right A Old New n d row small before same now =
+update-right A Old New n d row before same now =
     now ∙ rowOf-cong 4 _ _ (λ x h.
     ap (λ (b : Bool). cond (ltb x n && A x) (New x) b) (ap (λ (l : List ℕ). inRow l x) before ∙ inRow-of 4 (statesBelow n Old) x h)
     ∙ ⊎-elim (λ (l : x < n).
@@ -175,6 +175,17 @@ update-right A Old New n d row small before same now =
     agree : (a : Bool) {b c : Bool} → (a ≡ false → b ≡ c) → cond a c b ≡ c
     agree true e = refl
     agree false e = e refl
+
+-- a row of zeros that is brought up to date at every state
+pub update-first : (A New : ℕ → Bool) (n : ℕ) (row : List ℕ) → ((x : ℕ) → x < n → A x ≡ true)
+    → row ≡ rowOf 4 (λ x. cond (ltb x n && A x) (New x) (inRow (replicate 4 0) x)) → row ≡ rowOf 4 (statesBelow n New)
+update-first A New n row every now =
+    update-right A (λ x. false) New n (replicate 4 0) row (zeros ∙ rowOf-cong 4 _ _ (λ x h. sym (and-false (ltb x n)))) (λ x l e. absurd (clash (every x l) e)) now
+
+-- the states of such a row, listed
+pub passing-row : (n : ℕ) (S : ℕ → Bool) (row : List ℕ) → n ≤ 256 → row ≡ rowOf 4 (statesBelow n S) → passing n (inRow row) ≡ passing n S
+passing-row n S row small now =
+    passing-cong n _ _ (λ q h. ap (λ (l : List ℕ). inRow l q) now ∙ inRow-of 4 (statesBelow n S) q (omega arith) ∙ states-in n S q h)
 
 -- ---- the pending blocks of the refinement rule, by matrices
 
