@@ -1,7 +1,7 @@
 // The refinement engine (document 01, "Turns") on a transition table: the relations K and V and the blocks of K are bit matrices, and a
 // refinement step works on their words.
 ghost use mathlib.Core.Path.{_≡_};
-ghost use mathlib.Core.Bool.{true};
+ghost use mathlib.Core.Bool.{true, _&&_};
 ghost use Prim.Native.Nat.{_*_, _<_, _≤_};
 ghost use lib.ListN.{length};
 ghost use Rattle.lts.specs.Refinement.{block, coarsest};
@@ -10,6 +10,16 @@ ghost use Rattle.relation.specs.Matrix.{inRow, rowOf, rowWords, relationOf, mat
 ghost use Rattle.predecessors.specs.Sources.{Linked, Chained, sourcesInto, actionSet, removeSet};
 ghost use Rattle.splitting.specs.Split.{splitRelated, splitBlocks, pruneRelated, refinedRelated, Parted};
 ghost use Rattle.refinement.specs.Engine.{acted, relationsOf, stepped, Steady, Start, Untouched, Unmoved, IntoOutside};
+
+// The states that two sets have in common.
+fn common_states(a: &[u64; 4], b: &[u64; 4]) -> [u64; 4]
+    ensures { λ r. ⌜ r ≡ rowOf 4 (λ q. inRow (now (a .entry)) q && inRow (now (b .entry)) q) ⌝ }
+{
+    let mut out = [0u64; 4];
+    relation::row_copy(&mut out, a, 4);
+    relation::row_intersect(&mut out, b, 4);
+    out
+}
 
 // The split of K and of its blocks by Rem. Adds the rows that it can change to `touched`.
 fn split_by(
@@ -26,9 +36,7 @@ fn split_by(
     ensures { λ _. ⌜ Untouched n (now (related .entry)) (now (blocks .entry)) (now (touched .entry)) (now (related .exit)) (now (blocks .exit)) (now (touched .exit)) ⌝ }
     ensures { λ _. ⌜ Parted n (relationOf n (now (blocks .exit))) (inRow (now (shared .entry))) ⌝ }
 {
-    let mut split = [0u64; 4];
-    relation::row_copy(&mut split, rem, 4);
-    relation::row_intersect(&mut split, shared, 4);
+    let split = common_states(rem, shared);
     let rows = splitting::meeting_rows(blocks, n, &split);
     splitting::split_related(related, blocks, n, rem, &rows);
     splitting::split_blocks(blocks, n, rem, &rows);

@@ -1,79 +1,84 @@
+use mathlib.Core.Path.{_≡_, sym, ap, _∙_}
+use mathlib.Core.Bool.{Bool, true, _&&_}
+use mathlib.Core.List.{List}
+use Prim.Native.Nat.{ℕ, _<_, _≤_}
+use native.Mathlib.Omega.{arith}
+use lib.ListN.{length}
+use denote.Ref.{now}
+use Rattle.lts.specs.System.{Set, Rel}
+use Rattle.relation.specs.Matrix.{inRow, rowOf, relationOf, Matrix}
+use Rattle.relation.proofs.Rows.{inRow-of}
+use Rattle.relation.proofs.Matrices.{formed-of, relation-of}
+use Rattle.splitting.specs.Split.{Covers, Unsplit, Parted}
+use Rattle.splitting.proofs.Touched.{covered-unsplit, parted-split, parted-cong}
+use Rattle.refinement.proofs.Touched.{split-untouched}
 use borrow.Author.Needs.{needs}
 use Rattle.refinement.proofs.split_by.Statement.{statement}
 use Rattle.refinement.proofs.split_by.Tie as tie
-use Rattle.refinement.proofs.split_by.Reads as reads
-use Rattle.refinement.proofs.split_by.Lts as lts
-use Rattle.relation.proofs.row_copy.Reads as row-copy-reads
-use Rattle.relation.proofs.row_intersect.Reads as row-intersect-reads
-use Rattle.relation.proofs.row_union.Reads as row-union-reads
-use Rattle.splitting.proofs.meeting_rows.Reads as meeting-rows-reads
-use Rattle.splitting.proofs.split_blocks.Reads as split-blocks-reads
-use Rattle.splitting.proofs.split_related.Reads as split-related-reads
 
--- src/lib.rt:30:24
-slice-aggregate-row-copy : tie.Need-slice-aggregate-row-copy
-slice-aggregate-row-copy c = search needs
+-- the rows of the common states are all that the split can change
+whole : (n : ℕ) (P : Rel) (rem shared common rows : List ℕ) → n ≤ 256 → Parted n P (inRow shared) → common ≡ rowOf 4 (λ q. inRow rem q && inRow shared q)
+    → Covers n P n (inRow common) (inRow rows) → Unsplit n P (inRow rem) (inRow rows)
+whole n P rem shared common rows small parts is covers =
+    covered-unsplit n P (inRow shared) parts (inRow rows) (inRow rem) (λ x g hx hg l s p.
+    covers x g hx hg l (ap (λ (k : List ℕ). inRow k x) is ∙ inRow-of 4 (λ q. inRow rem q && inRow shared q) x (omega (arith, small, hx)) ∙ s) p)
 
--- src/lib.rt:30:5
-row-copy-requires : tie.Need-row-copy-requires
-row-copy-requires c κs = search needs
+common-states-requires : tie.Need-common-states-requires
+common-states-requires c κs = search needs
 
--- src/lib.rt:31:29
-slice-aggregate-row-intersect : tie.Need-slice-aggregate-row-intersect
-slice-aggregate-row-intersect c = search needs
-
--- src/lib.rt:31:5
-row-intersect-requires : tie.Need-row-intersect-requires
-row-intersect-requires c κs = search needs
-
--- src/lib.rt:32:51
 slice-aggregate-meeting-rows : tie.Need-slice-aggregate-meeting-rows
 slice-aggregate-meeting-rows c = search needs
 
--- src/lib.rt:32:16
 meeting-rows-requires : tie.Need-meeting-rows-requires
-meeting-rows-requires c κs = search needs
+meeting-rows-requires c κs =
+    (c .before .before .before .before .before .before .pre .0, c .before .before .before .before .before .before .pre .2, search needs)
 
--- src/lib.rt:33:5
 split-related-requires : tie.Need-split-related-requires
-split-related-requires c κs = search needs
+split-related-requires c κs =
+    let a = c .before .before .before .before .before .before .before .before .before .before .args in
+    let pre = c .before .before .before .before .before .before .before .before .before .before .pre in
+    ((pre .0, pre .1, pre .2), whole (a .n) (relationOf (a .n) (now (a .blocks))) (now (a .rem)) (now (a .shared)) _ _ (pre .0) (pre .3) (c .before .before .before .before .before .before .common-states .ensures) (c .before .before .before .meeting-rows .ensures))
 
--- src/lib.rt:34:5
 split-blocks-requires : tie.Need-split-blocks-requires
-split-blocks-requires c κs = search needs
+split-blocks-requires c κs =
+    let a = c .before .before .before .before .before .before .before .before .before .before .before .before .before .before .before .args in
+    let pre = c .before .before .before .before .before .before .before .before .before .before .before .before .before .before .before .pre in
+    ((pre .0, pre .2), whole (a .n) (relationOf (a .n) (now (a .blocks))) (now (a .rem)) (now (a .shared)) _ _ (pre .0) (pre .3) (c .before .before .before .before .before .before .before .before .before .before .before .common-states .ensures) (c .before .before .before .before .before .before .before .before .meeting-rows .ensures))
 
--- src/lib.rt:35:34
 slice-aggregate-row-union : tie.Need-slice-aggregate-row-union
 slice-aggregate-row-union c = search needs
 
--- src/lib.rt:35:5
 row-union-requires : tie.Need-row-union-requires
 row-union-requires c κs = search needs
 
--- src/lib.rt:15:1
 same-length : tie.Need-same-length
 same-length c = search needs
 
--- src/lib.rt:15:1
 same-length-2 : tie.Need-same-length-2
 same-length-2 c = search needs
 
--- src/lib.rt:15:1
 same-length-3 : tie.Need-same-length-3
 same-length-3 c = search needs
 
--- src/lib.rt:15:1
 returns : tie.Need-returns
-returns c = search needs
+returns c =
+    let a = c .before .before .before .before .before .before .before .before .before .before .before .before .before .before .before .before .before .before .before .before .before .before .before .args in
+    let pre = c .before .before .before .before .before .before .before .before .before .before .before .before .before .before .before .before .before .before .before .before .before .before .before .pre in
+    let P = relationOf (a .n) (now (a .blocks)) in
+    let Rem = inRow (now (a .rem)) in
+    let related = c .before .before .before .before .before .before .before .before .before .before .before .before .split-related .ensures in
+    let blocks = c .before .before .before .before .before .before .before .split-blocks .ensures in (
+      related,
+      (blocks,
+      (split-untouched (a .n) (now (a .related)) (now (a .blocks)) (now (a .touched)) _ _ (pre .0) (pre .4) (c .before .before .row-union .ensures) Rem _ _ (whole (a .n) P (now (a .rem)) (now (a .shared)) _ _ (pre .0) (pre .3) (c .before .before .before .before .before .before .before .before .before .before .before .before .before .before .before .before .before .before .before .common-states .ensures) (c .before .before .before .before .before .before .before .before .before .before .before .before .before .before .before .before .meeting-rows .ensures)) related blocks,
+      parted-cong (a .n) _ _ (inRow (now (a .shared))) (relation-of (a .n) _ blocks) (parted-split (a .n) P (inRow (now (a .shared))) Rem (pre .3)))),
+    )
 
 pub split-by-spec : {M : Type 1} → statement M
 split-by-spec =
     tie.close
     (tie.spec
-    slice-aggregate-row-copy
-    row-copy-requires
-    slice-aggregate-row-intersect
-    row-intersect-requires
+    common-states-requires
     slice-aggregate-meeting-rows
     meeting-rows-requires
     split-related-requires
