@@ -1,11 +1,15 @@
 -- One refinement step on matrices is the step of the refinement rule on what they hold.
 use Prim.Native.Nat.{ℕ, _*_, _≤_, _<_}
 use native.Mathlib.Omega.{arith}
-use mathlib.Core.Path.{_≡_, refl, sym, _∙_, ap, ap₂}
-use mathlib.Core.Bool.{Bool, false, cond, not, _&&_}
+use mathlib.Core.Path.{_≡_, refl, sym, _∙_, ap, ap₂, subst}
+use mathlib.Core.Logic.{inl, inr}
+use mathlib.Core.Bool.{Bool, true, false, cond, not, _&&_, _||_}
 use mathlib.Core.List.{List, _++_}
 use lib.Dec.{T}
-use lib.ListN.{drop}
+use lib.ListN.{drop, getD}
+use Rattle.lts.specs.Bounded.{countBelow}
+use Rattle.lts.proofs.Count.{count-lt, count-most}
+use Rattle.relation.proofs.Counts.{count-shorter}
 use Rattle.lts.specs.System.{Set, Rel, Lts, WellFormed, into}
 use Rattle.lts.specs.Refinement.{Relations, block, remove, refine, eachAction, stepOf}
 use Rattle.lts.specs.Table.{tableLts, Table}
@@ -14,11 +18,11 @@ use Rattle.lts.proofs.Table.{table-formed}
 use Rattle.relation.specs.Matrix.{inRow, rowOf, statesBelow, relationOf, matrixOf}
 use Rattle.relation.proofs.Rows.{inRow-of, inRow-written}
 use Rattle.relation.proofs.Matrices.{states-in, states-out, relation-of, matrixOf-cong}
-use Rattle.predecessors.specs.Sources.{sourcesInto, actionSet, removeSet}
-use Rattle.predecessors.proofs.Laws.{action-set-into, remove-set-is}
+use Rattle.predecessors.specs.Sources.{Linked, sourcesInto, actionSet, removeSet}
+use Rattle.predecessors.proofs.Laws.{table-numbers, action-set-into, remove-set-is, remove-enabled}
 use Rattle.predecessors.proofs.Tables.{into-cong}
 use Rattle.splitting.proofs.Laws.{hit-free}
-use Rattle.refinement.specs.Engine.{heldBy, relationsOf, acted, Steady}
+use Rattle.refinement.specs.Engine.{heldBy, relationsOf, acted, Steady, Untouched, Unmoved, IntoOutside}
 use Rattle.refinement.proofs.Laws.{held-at, block-held}
 use Rattle.refinement.proofs.Actions.{acted-related, acted-blocks}
 
@@ -35,6 +39,27 @@ outside-row n S whole inside outside small e d q h =
   where
     below : q < 4 * 64
     below = omega (arith, small, h)
+
+-- a set of states that are as many as there are has each
+all-seen : (n : ℕ) (S : Set) (seen : List ℕ) → n ≤ 256 → seen ≡ rowOf 4 (statesBelow n S) → countBelow (4 * 64) (inRow seen) ≡ n → (q : ℕ) → q < n → S q ≡ true
+all-seen n S seen small e full q h = go (S q) refl
+  where
+    at : (x : ℕ) → x < 4 * 64 → inRow seen x ≡ statesBelow n S x
+    at x l = ap (λ (l : List ℕ). inRow l x) e ∙ inRow-of 4 (statesBelow n S) x l
+
+    go : (b : Bool) → S q ≡ b → b ≡ true
+    go true s = refl
+    go false s =
+        let below : q < 4 * 64 = omega (arith, small, h) in
+        let out : inRow seen q ≡ false = at q below ∙ states-in n S q h ∙ s in
+        let fewer = count-lt n (inRow seen) (λ x. true) (λ x _ _. tt) q h (λ t. subst T out t) tt in
+        let most = count-most n (λ x. true) in
+        let same = count-shorter n (4 * 64) (inRow seen) (omega (arith, small)) (λ x l u. at x u ∙ states-out n S x l) in
+        absurd (omega (arith, fewer, most, same, full))
+
+either : (b : Bool) → true && not b || b ≡ true
+either true = refl
+either false = refl
 
 module _ (n m k : ℕ) (sources actions targets : List ℕ) (tab : Table n m k sources actions targets)
     (b : ℕ) (low : b < n) (related viewed blocks : List ℕ) (blocks-is : blocks ≡ matrixOf n (block (relationOf n related)))
@@ -71,6 +96,31 @@ module _ (n m k : ℕ) (sources actions targets : List ℕ) (tab : Table n m k s
   unfolding relationsOf
   in-outside q h = outside-is q h ∙ ap₂ (λ (x y : Bool). x && not y) (sym (held-at n viewed b q low h)) (in-inside q h)
 
+  -- the sets of all sources make the same Rem as those into N, where V has every state
+  pub step-outside : {head link enabled seen into-outside into-inside : List ℕ} → Linked k targets head link → enabled ≡ rowOf 260 (sourcesInto k sources actions targets (λ t. true))
+      → seen ≡ rowOf 4 (statesBelow n (relationOf n viewed b)) → into-inside ≡ rowOf 260 (sourcesInto k sources actions targets (inRow inside))
+      → IntoOutside n sources actions head link enabled seen outside into-outside
+      → (a q : ℕ) → a ≤ 64 → q < 256 → removeSet into-outside into-inside a q ≡ removeSet (rowOf 260 (sourcesInto k sources actions targets (inRow outside))) into-inside a q
+  step-outside {into-inside = inner} linked all seen-is inside-into (inr into) a q ha hq =
+      ap (λ (l : List ℕ). removeSet l inner a q) (into k targets (table-numbers tab) linked)
+  step-outside {seen = seen} {into-inside = inner} linked all seen-is inside-into (inl full) a q ha hq =
+      ap (λ (l : List ℕ). removeSet l inner a q) (full .1)
+      ∙ remove-enabled k sources actions targets (inRow outside) (inRow inside) (λ i h.
+      let t = getD targets i 0 in
+      let ht : t < n = tab .target i h in
+      ap (λ (b : Bool). b || inRow inside t) (outside-is t ht ∙ ap (λ (b : Bool). b && not (inRow inside t)) (all-seen n (relationOf n viewed b) seen (tab .states) seen-is (full .0) t ht))
+      ∙ either (inRow inside t)) all refl inside-into a q ha hq
+
+  -- the rows outside what the step touched
+  pub step-unmoved : {touched touched′ related′ viewed′ blocks′ : List ℕ} → touched ≡ members → Untouched n related blocks touched related′ blocks′ touched′
+      → viewed′ ≡ matrixOf n (λ g h. cond (inRow members g) (inRow inside h) (relationOf n viewed g h)) → Unmoved n touched′ related viewed blocks related′ viewed′ blocks′
+  step-unmoved same rows e = record {
+    related-same = rows .related-same;
+    viewed-same = λ g h l u out. relation-of n _ e g h l u
+        ∙ ap (λ (b : Bool). cond b (inRow inside h) (relationOf n viewed g h)) (sym (ap (λ (l : List ℕ). inRow l g) same) ∙ rows .grows g l out);
+    blocks-same = rows .blocks-same;
+  }
+
   -- V
   pub step-viewed : (viewed′ : List ℕ) → viewed′ ≡ matrixOf n (λ g h. cond (inRow members g) (inRow inside h) (relationOf n viewed g h))
       → viewed′ ≡ matrixOf n (stepOf L b s .viewed)
@@ -79,7 +129,7 @@ module _ (n m k : ℕ) (sources actions targets : List ℕ) (tab : Table n m k s
 
   -- K and its blocks
   module _ (steady : Steady L b s) (into-outside into-inside into-members : List ℕ)
-      (outside-into : into-outside ≡ rowOf 260 (sourcesInto k sources actions targets (inRow outside)))
+      (outside-into : (a q : ℕ) → a ≤ 64 → q < 256 → removeSet into-outside into-inside a q ≡ removeSet (rowOf 260 (sourcesInto k sources actions targets (inRow outside))) into-inside a q)
       (inside-into : into-inside ≡ rowOf 260 (sourcesInto k sources actions targets (inRow inside)))
       (members-into : into-members ≡ rowOf 260 (sourcesInto k sources actions targets (inRow members))) where
     below : (q : ℕ) → q < n → q < 256
@@ -88,7 +138,8 @@ module _ (n m k : ℕ) (sources actions targets : List ℕ) (tab : Table n m k s
     rem : (a q : ℕ) → a ≤ m → q < n → removeSet into-outside into-inside a q ≡ remove L a Y N q
     unfolding remove
     rem a q l h =
-        remove-set-is tab (inRow inside) (inRow outside) a q outside-into inside-into (let u = tab .labels in omega (arith, l, u)) (below q h)
+        outside-into a q (let u = tab .labels in omega (arith, l, u)) (below q h)
+        ∙ remove-set-is tab (inRow inside) (inRow outside) a q refl inside-into (let u = tab .labels in omega (arith, l, u)) (below q h)
         ∙ ap₂ (λ (x y : Bool). x && not y) (into-cong tab (inRow outside) N in-outside a q) (into-cong tab (inRow inside) Y in-inside a q)
 
     hits : (a q : ℕ) → a ≤ m → q < n → actionSet into-members a q ≡ into L a B q

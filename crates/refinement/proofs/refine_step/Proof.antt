@@ -1,86 +1,113 @@
+use mathlib.Core.Path.{_≡_, sym, ap, _∙_}
+use Prim.Native.Nat.{ℕ, _<_}
+use lib.ListN.{length}
+use denote.Ref.{now}
+use Rattle.lts.specs.Refinement.{block}
+use Rattle.relation.specs.Matrix.{relationOf, matrixOf}
+use Rattle.relation.proofs.Bounded.{length-listBelow}
+use Rattle.relation.proofs.Matrices.{formed-of, length-matrixOf}
+use Rattle.predecessors.proofs.Laws.{table-numbers}
+use Rattle.refinement.proofs.Steps.{row-out, outside-row, step-related, step-viewed, step-blocks, step-outside, step-unmoved}
 use borrow.Author.Needs.{needs}
 use Rattle.refinement.proofs.refine_step.Statement.{statement}
 use Rattle.refinement.proofs.refine_step.Tie as tie
-use Rattle.refinement.proofs.refine_step.Reads as reads
-use Rattle.refinement.proofs.refine_step.Lts as lts
-use Rattle.predecessors.proofs.sources_into.Reads as sources-into-reads
-use Rattle.refinement.proofs.refine_actions.Reads as refine-actions-reads
-use Rattle.refinement.proofs.sources_outside.Reads as sources-outside-reads
-use Rattle.relation.proofs.row_minus.Reads as row-minus-reads
-use Rattle.splitting.proofs.row_set.Reads as row-set-reads
-use Rattle.splitting.proofs.set_views.Reads as set-views-reads
 
--- src/lib.rt:179:19
 row-set-requires : tie.Need-row-set-requires
-row-set-requires c κs = ?
+row-set-requires c κs =
+    let a = c .before .before .before .before .args in
+    let is : now (a .blocks) ≡ matrixOf (a .n) (block (relationOf (a .n) (now (a .related)))) = c .before .before .before .before .pre .1 .0 in
+    (c .before .before .before .before .pre .0 .0 .states, formed-of _ _ is, c .before .before .before .before .pre .0 .5)
 
--- src/lib.rt:180:18
 row-set-requires-2 : tie.Need-row-set-requires-2
-row-set-requires-2 c κs = ?
+row-set-requires-2 c κs =
+    (c .before .before .before .before .before .before .pre .0 .0 .states, c .before .before .before .before .before .before .pre .0 .3, c .before .before .before .before .before .before .pre .0 .5)
 
--- src/lib.rt:181:16
 row-set-requires-3 : tie.Need-row-set-requires-3
-row-set-requires-3 c κs = ?
+row-set-requires-3 c κs =
+    (c .before .before .before .before .before .before .before .before .pre .0 .0 .states, c .before .before .before .before .before .before .before .before .pre .0 .4, c .before .before .before .before .before .before .before .before .pre .0 .5)
 
--- src/lib.rt:182:23
 row-set-requires-4 : tie.Need-row-set-requires-4
-row-set-requires-4 c κs = ?
+row-set-requires-4 c κs =
+    (c .before .before .before .before .before .before .before .before .before .before .pre .0 .0 .states, c .before .before .before .before .before .before .before .before .before .before .pre .0 .4, c .before .before .before .before .before .before .before .before .before .before .pre .0 .5)
 
--- src/lib.rt:183:25
 slice-aggregate-row-minus : tie.Need-slice-aggregate-row-minus
-slice-aggregate-row-minus c = ?
+slice-aggregate-row-minus c = search needs
 
--- src/lib.rt:183:39
 slice-aggregate-row-minus-2 : tie.Need-slice-aggregate-row-minus-2
-slice-aggregate-row-minus-2 c = ?
+slice-aggregate-row-minus-2 c = search needs
 
--- src/lib.rt:183:5
 row-minus-requires : tie.Need-row-minus-requires
-row-minus-requires c κs = ?
+row-minus-requires c κs = search needs
 
--- src/lib.rt:184:5
 set-views-requires : tie.Need-set-views-requires
-set-views-requires c κs = ?
+set-views-requires c κs =
+    ((c .before .before .before .before .before .before .before .before .before .before .before .before .before .before .before .before .before .before .pre .0 .0 .states, c .before .before .before .before .before .before .before .before .before .before .before .before .before .before .before .before .before .before .pre .0 .4), λ q l h. row-out (c .before .before .before .before .before .before .before .before .before .before .before .before .before .before .before .before .before .before .args .n) _ _ (c .before .before .before .before .before .before .before .before .before .before .before .row-set2 .ensures) q l h)
 
--- src/lib.rt:185:24
 sources-outside-requires : tie.Need-sources-outside-requires
-sources-outside-requires c κs = ?
+sources-outside-requires c κs =
+    (c .before .before .before .before .before .before .before .before .before .before .before .before .before .before .before .before .before .before .before .before .before .before .before .args .k, now (c .before .before .before .before .before .before .before .before .before .before .before .before .before .before .before .before .before .before .before .before .before .before .before .args .targets), table-numbers (c .before .before .before .before .before .before .before .before .before .before .before .before .before .before .before .before .before .before .before .before .before .before .before .pre .0 .0), c .before .before .before .before .before .before .before .before .before .before .before .before .before .before .before .before .before .before .before .before .before .before .before .pre .0 .1)
 
--- src/lib.rt:186:23
 sources-into-requires : tie.Need-sources-into-requires
-sources-into-requires c κs = ?
+sources-into-requires c κs =
+    (c .before .before .before .before .before .before .before .before .before .before .before .before .before .before .before .before .before .before .before .before .before .before .before .before .before .args .k, now (c .before .before .before .before .before .before .before .before .before .before .before .before .before .before .before .before .before .before .before .before .before .before .before .before .before .args .targets), table-numbers (c .before .before .before .before .before .before .before .before .before .before .before .before .before .before .before .before .before .before .before .before .before .before .before .before .before .pre .0 .0), c .before .before .before .before .before .before .before .before .before .before .before .before .before .before .before .before .before .before .before .before .before .before .before .before .before .pre .0 .1)
 
--- src/lib.rt:187:24
 sources-into-requires-2 : tie.Need-sources-into-requires-2
-sources-into-requires-2 c κs = ?
+sources-into-requires-2 c κs =
+    (c .before .before .before .before .before .before .before .before .before .before .before .before .before .before .before .before .before .before .before .before .before .before .before .before .before .before .before .args .k, now (c .before .before .before .before .before .before .before .before .before .before .before .before .before .before .before .before .before .before .before .before .before .before .before .before .before .before .before .args .targets), table-numbers (c .before .before .before .before .before .before .before .before .before .before .before .before .before .before .before .before .before .before .before .before .before .before .before .before .before .before .before .pre .0 .0), c .before .before .before .before .before .before .before .before .before .before .before .before .before .before .before .before .before .before .before .before .before .before .before .before .before .before .before .pre .0 .1)
 
--- src/lib.rt:188:23
 row-set-requires-5 : tie.Need-row-set-requires-5
-row-set-requires-5 c κs = ?
+row-set-requires-5 c κs =
+    let a = c .before .before .before .before .before .before .before .before .before .before .before .before .before .before .before .before .before .before .before .before .before .before .before .before .before .before .before .before .before .args in
+    let is : now (a .blocks) ≡ matrixOf (a .n) (block (relationOf (a .n) (now (a .related)))) = c .before .before .before .before .before .before .before .before .before .before .before .before .before .before .before .before .before .before .before .before .before .before .before .before .before .before .before .before .before .pre .1 .0 in
+    (c .before .before .before .before .before .before .before .before .before .before .before .before .before .before .before .before .before .before .before .before .before .before .before .before .before .before .before .before .before .pre .0 .0 .states, formed-of _ _ is, c .before .before .before .before .before .before .before .before .before .before .before .before .before .before .before .before .before .before .before .before .before .before .before .before .before .before .before .before .before .pre .0 .5)
 
--- src/lib.rt:198:9
 slice-aggregate-refine-actions : tie.Need-slice-aggregate-refine-actions
-slice-aggregate-refine-actions c = ?
+slice-aggregate-refine-actions c = search needs
 
--- src/lib.rt:189:5
 refine-actions-requires : tie.Need-refine-actions-requires
-refine-actions-requires c κs = ?
+refine-actions-requires c κs =
+    let a = c .before .before .before .before .before .before .before .before .before .before .before .before .before .before .before .before .before .before .before .before .before .before .before .before .before .before .before .before .before .before .before .before .before .before .before .before .args in
+    let is : now (a .blocks) ≡ matrixOf (a .n) (block (relationOf (a .n) (now (a .related)))) = c .before .before .before .before .before .before .before .before .before .before .before .before .before .before .before .before .before .before .before .before .before .before .before .before .before .before .before .before .before .before .before .before .before .before .before .before .pre .1 .0 in
+    (c .before .before .before .before .before .before .before .before .before .before .before .before .before .before .before .before .before .before .before .before .before .before .before .before .before .before .before .before .before .before .before .before .before .before .before .before .pre .0 .0 .states, c .before .before .before .before .before .before .before .before .before .before .before .before .before .before .before .before .before .before .before .before .before .before .before .before .before .before .before .before .before .before .before .before .before .before .before .before .pre .0 .0 .labels, c .before .before .before .before .before .before .before .before .before .before .before .before .before .before .before .before .before .before .before .before .before .before .before .before .before .before .before .before .before .before .before .before .before .before .before .before .pre .0 .3, formed-of _ _ is, c .before .before .before .before .before .before .before .before .before .before .before .before .before .before .before .before .before .before .before .before .before .before .before .before .before .before .before .before .before .before .before .before .before .before .before .before .pre .0 .6, search needs)
 
--- src/lib.rt:154:1
 same-length : tie.Need-same-length
-same-length c = ?
+same-length c = search needs
 
--- src/lib.rt:154:1
 same-length-2 : tie.Need-same-length-2
-same-length-2 c = ?
+same-length-2 c =
+    ap length (c .before .before .before .before .before .before .before .before .before .before .before .before .before .before .before .before .before .before .before .before .before .before .before .set-views .ensures) ∙ length-matrixOf _ _ ∙ sym (c .before .before .before .before .before .before .before .before .before .before .before .before .before .before .before .before .before .before .before .before .before .before .before .before .before .before .before .before .before .before .before .before .before .before .before .before .before .before .before .before .before .before .pre .0 .4 .long)
 
--- src/lib.rt:154:1
 same-length-3 : tie.Need-same-length-3
-same-length-3 c = ?
+same-length-3 c = search needs
 
--- src/lib.rt:154:1
 returns : tie.Need-returns
-returns c = ?
+returns c =
+    let start = c .before .before .before .before .before .before .before .before .before .before .before .before .before .before .before .before .before .before .before .before .before .before .before .before .before .before .before .before .before .before .before .before .before .before .before .before .before .before .before .before .before .before in
+    let a = start .args in
+    let n = a .n in
+    let tab = start .pre .0 .0 in
+    let linked = start .pre .0 .1 in
+    let is : now (a .blocks) ≡ matrixOf n (block (relationOf n (now (a .related)))) = start .pre .1 .0 in
+    let members = c .before .before .before .before .before .before .before .before .before .before .before .before .before .before .before .before .before .before .before .before .before .before .before .before .before .before .before .before .before .before .before .before .before .before .before .before .before .row-set in
+    let inside = c .before .before .before .before .before .before .before .before .before .before .before .before .before .before .before .before .before .before .before .before .before .before .before .before .before .before .before .before .before .before .before .before .before .before .before .row-set2 in
+    let minus = c .before .before .before .before .before .before .before .before .before .before .before .before .before .before .before .before .before .before .before .before .before .before .before .before .before .before .before .before .row-minus in
+    let outside = outside-row n (relationOf n (now (a .viewed)) (a .b)) (c .before .before .before .before .before .before .before .before .before .before .before .before .before .before .before .before .before .before .before .before .before .before .before .before .before .before .before .before .before .before .before .row-set4 .result) (inside .result) (minus .last .0) (tab .states) (c .before .before .before .before .before .before .before .before .before .before .before .before .before .before .before .before .before .before .before .before .before .before .before .before .before .before .before .before .before .before .before .row-set4 .ensures) (minus .ensures) in
+    let inner = c .before .before .before .before .before .before .before .before .before .before .before .before .before .before .before .before .sources-into .ensures (a .k) (now (a .targets)) (table-numbers tab) linked in
+    let own = c .before .before .before .before .before .before .before .before .before .before .before .before .before .before .sources-into2 .ensures (a .k) (now (a .targets)) (table-numbers tab) linked in
+    let outer = step-outside n (a .m) (a .k) (now (a .sources)) (now (a .actions)) (now (a .targets)) tab (a .b) (start .pre .0 .5) (now (a .related)) (now (a .viewed)) (now (a .blocks)) is (members .result) (inside .result) (minus .last .0)
+    (members .ensures) (inside .ensures) outside linked (start .pre .0 .2) (c .before .before .before .before .before .before .before .before .before .before .before .before .before .before .before .before .before .before .before .before .before .before .before .before .before .before .before .before .before .before .before .before .before .row-set3 .ensures) inner (c .before .before .before .before .before .before .before .before .before .before .before .before .before .before .before .before .before .before .sources-outside .ensures) in
+    let acted = c .before .before .before .before .before .refine-actions .ensures in
+    let viewed = c .before .before .before .before .before .before .before .before .before .before .before .before .before .before .before .before .before .before .before .before .before .before .before .set-views .ensures in (
+      step-related n (a .m) (a .k) (now (a .sources)) (now (a .actions)) (now (a .targets)) tab (a .b) (start .pre .0 .5) (now (a .related)) (now (a .viewed)) (now (a .blocks)) is (members .result) (inside .result) (minus .last .0)
+          (members .ensures) (inside .ensures) outside (start .pre .1 .1) _ _ _ outer inner own _ (acted .0),
+      (step-viewed n (a .m) (a .k) (now (a .sources)) (now (a .actions)) (now (a .targets)) tab (a .b) (start .pre .0 .5) (now (a .related)) (now (a .viewed)) (now (a .blocks)) is (members .result) (inside .result) (minus .last .0)
+            (members .ensures) (inside .ensures) outside _ viewed,
+      (step-blocks n (a .m) (a .k) (now (a .sources)) (now (a .actions)) (now (a .targets)) tab (a .b) (start .pre .0 .5) (now (a .related)) (now (a .viewed)) (now (a .blocks)) is (members .result) (inside .result) (minus .last .0)
+            (members .ensures) (inside .ensures) outside (start .pre .1 .1) _ _ _ outer inner own _ (acted .1 .0),
+      (step-unmoved n (a .m) (a .k) (now (a .sources)) (now (a .actions)) (now (a .targets)) tab (a .b) (start .pre .0 .5) (now (a .related)) (now (a .viewed)) (now (a .blocks)) is (members .result) (inside .result) (minus .last .0)
+            (members .ensures) (inside .ensures) outside (c .before .before .before .before .before .before .before .before .before .before .before .before .row-set5 .ensures ∙ sym (members .ensures)) (acted .1 .1 .0) viewed,
+      acted .1 .1 .1))),
+    )
 
 pub refine-step-spec : {M : Type 1} → statement M
 refine-step-spec =
