@@ -1,41 +1,39 @@
 -- The engine's loop over a transition table: what holds whenever its test is reached, and what follows.
-use Prim.Native.Nat.{ℕ, suc, _+_, _*_, _%_, _≤_, _<_}
+use Prim.Native.Nat.{ℕ, _+_, _*_, _%_, _≤_, _<_}
 use native.Mathlib.Nat.{mul-le-mul}
 use native.Mathlib.Numerals.{add-one}
 use native.Mathlib.Omega.{arith}
 use mathlib.Core.Path.{_≡_, refl, sym, _∙_, ap, subst}
-use mathlib.Core.Bool.{Bool, true}
-use mathlib.Core.List.{List, _++_}
-use lib.Dec.{T}
-use lib.ListN.{length, getD, drop}
+use mathlib.Core.Bool.{Bool, true, false, cond, _&&_, true≢false}
+use mathlib.Core.List.{List}
+use lib.Dec.{T, ltb}
+use lib.ListN.{length, getD, replicate}
 use Rattle.lts.specs.Bounded.{passing}
 use Rattle.lts.specs.System.{Set, Rel, Lts, WellFormed, anyState}
-use Rattle.lts.specs.Refinement.{Relations, Run, initial, block, pending, stepOf, chosen, coarsest}
+use Rattle.lts.specs.Refinement as Refinement
+use Rattle.lts.specs.Refinement.{Relations, Run, initial, block, eachAction, stepOf, chosen, coarsest}
 use Rattle.lts.specs.Table.{tableLts, Table}
 use Rattle.lts.proofs.System.{Preorder}
 use Rattle.lts.proofs.Table.{table-formed}
-use Rattle.relation.specs.Matrix.{relationOf, matrixOf, Matrix}
+use Rattle.relation.specs.Matrix.{inRow, rowOf, statesBelow, relationOf, matrixOf, Matrix}
+use Rattle.relation.proofs.Bounded.{T-true, length-listBelow}
 use Rattle.relation.proofs.Matrices.{relation-of, formed-of, matrixOf-cong}
-use Rattle.partition.specs.Pending.{pendingIn}
 use Rattle.partition.proofs.Laws as partition
+use Rattle.splitting.specs.Split.{Parted}
 use Rattle.refinement.specs.Engine.{heldBy, relationsOf, Steady, State, Start}
 use Rattle.refinement.proofs.Laws.{held-at, block-held, state-begin, state-steady, state-next, state-end, state-below, chosen-below}
+use Rattle.refinement.proofs.Pending.{pendingAt, row-all}
 
-abbrev pub pendingAt : ℕ → List ℕ → List ℕ → List ℕ → Set
-pendingAt n related viewed blocks = pendingIn n (relationOf n related) (relationOf n viewed) (relationOf n blocks)
-
-pub record At (n m k : ℕ) (sources actions targets start schedule : List ℕ) (steps : ℕ) (related viewed blocks list : List ℕ) (c : ℕ) : Type 0 where
+pub record At (n m k : ℕ) (sources actions targets start schedule : List ℕ) (steps : ℕ) (related viewed blocks shared pending : List ℕ) (c : ℕ) : Type 0 where
   pub state : State (tableLts n m k sources actions targets) (relationOf n start) schedule steps related viewed blocks
-  pub count : c ≡ length (passing n (pendingAt n related viewed blocks))
-  pub listed : (rest : List ℕ) × (list ≡ passing n (pendingAt n related viewed blocks) ++ rest)
-  pub long : length list ≡ 256
+  pub pending-is : pending ≡ rowOf 4 (statesBelow n (pendingAt n related viewed blocks))
+  pub count : c ≡ length (passing n (inRow pending))
+  pub parts : Parted n (relationOf n blocks) (inRow shared)
+  pub long : length shared ≡ 4
 
--- the list of the pending representatives, from a list of 256 numbers
-pub collected : (n c : ℕ) (related viewed blocks list before : List ℕ) → n ≤ 256 → length before ≡ 256 → c ≡ length (passing n (pendingAt n related viewed blocks))
-    → list ≡ passing n (pendingAt n related viewed blocks) ++ drop c before → length list ≡ 256
-collected n c related viewed blocks list before small long count e =
-    let f = pendingAt n related viewed blocks in
-    ap length (e ∙ ap (λ (x : ℕ). passing n f ++ drop x before) count) ∙ partition.length-collected n f before (omega (arith, small, long)) ∙ long
+pub pending-long : {n m k : ℕ} {sources actions targets start schedule : List ℕ} {steps : ℕ} {related viewed blocks shared pending : List ℕ} {c : ℕ}
+    → At n m k sources actions targets start schedule steps related viewed blocks shared pending c → length pending ≡ 4
+pending-long at = ap length (at .pending-is) ∙ length-listBelow 4 _
 
 -- a step fewer than n * n is a number
 pub small-steps : (n steps : ℕ) → n ≤ 256 → steps < n * n → steps < 65536
@@ -95,44 +93,76 @@ module _ (n m k : ℕ) (sources actions targets : List ℕ) (tab : Table n m k s
     same-blocks : (p q : ℕ) → p < n → q < n → relationOf n blocks p q ≡ block (relationOf n related) p q
     same-blocks = relation-of n _ blocks-of
 
-    module _ (list : List ℕ) (c : ℕ) (count : c ≡ length (passing n (pendingAt n related viewed blocks))) (some : 0 < c) where
-      any : T (anyState L (pending L s))
-      unfolding tableLts
-      any = partition.some-pending L s n (relationOf n related) (relationOf n viewed) (relationOf n blocks) refl same-related same-viewed same-blocks (subst (λ (x : ℕ). 0 < x) count some)
+    reflexive : (g : ℕ) → g < n → relationOf n related g g ≡ true
+    unfolding tableLts eachAction relationsOf
+    reflexive g h = sym (held-at n related g g h h) ∙ T-true (heldBy n related g g) (steady 0 .during 0 .loop h)
 
-      pub loop-below : steps < n * n
-      unfolding tableLts
-      loop-below = state-below L wf preorder pre schedule steps related viewed blocks state any
+    -- the blocks are blocks, and a state outside a set of all states is none
+    pub parted-first : Parted n (relationOf n blocks) (inRow (replicate 4 18446744073709551615))
+    unfolding block
+    parted-first = record {
+      sym = λ g h hg hh e. same-blocks h g hh hg ∙ turn (relationOf n related g h) (relationOf n related h g) (sym (same-blocks g h hg hh) ∙ e);
+      loop = λ g hg. same-blocks g g hg hg ∙ ap (λ (b : Bool). b && b) (reflexive g hg);
+      single = λ g h hg hh out e. absurd (true≢false (sym (row-all 4 g (omega (arith, hg, tab .states))) ∙ out));
+    }
+      where
+        turn : (a b : Bool) → a && b ≡ true → b && a ≡ true
+        turn true true e = refl
+        turn true false e = e
+        turn false b e = absurd (true≢false (sym e))
 
-      module _ (b : ℕ) (listed : (rest : List ℕ) × (list ≡ passing n (pendingAt n related viewed blocks) ++ rest)) (chose : b ≡ getD list (getD schedule steps 0 % c) 0) where
-        b-is : b ≡ chosen L (getD schedule steps 0) s
+    -- the set of the pending representatives, from a row of zeros that is brought up to date at all states
+    pub pending-first : (pending : List ℕ)
+        → pending ≡ rowOf 4 (λ p. cond (ltb p n && inRow (replicate 4 18446744073709551615) p) (pendingAt n related viewed blocks p) (inRow (replicate 4 0) p))
+        → pending ≡ rowOf 4 (statesBelow n (pendingAt n related viewed blocks))
+    pending-first pending e =
+        partition.update-first (inRow (replicate 4 18446744073709551615)) (pendingAt n related viewed blocks) n pending (λ x h. row-all 4 x (omega (arith, h, tab .states))) e
+
+    module _ (pending : List ℕ) (c : ℕ) (pending-is : pending ≡ rowOf 4 (statesBelow n (pendingAt n related viewed blocks))) (count : c ≡ length (passing n (inRow pending))) where
+      listed : passing n (inRow pending) ≡ passing n (pendingAt n related viewed blocks)
+      listed = partition.passing-row n (pendingAt n related viewed blocks) pending (tab .states) pending-is
+
+      counted : c ≡ length (passing n (pendingAt n related viewed blocks))
+      counted = count ∙ ap length listed
+
+      module _ (some : 0 < c) where
+        any : T (anyState L (Refinement.pending L s))
         unfolding tableLts
-        b-is = chose ∙ ap (λ (l : List ℕ). getD l (getD schedule steps 0 % c) 0) (listed .1)
-            ∙ ap (λ (x : ℕ). getD (passing n (pendingAt n related viewed blocks) ++ listed .0) (getD schedule steps 0 % x) 0) count
-            ∙ partition.chosen-is L s n (relationOf n related) (relationOf n viewed) (relationOf n blocks) refl same-related same-viewed same-blocks (getD schedule steps 0) (listed .0) (subst (λ (x : ℕ). 0 < x) count some)
+        any = partition.some-pending L s n (relationOf n related) (relationOf n viewed) (relationOf n blocks) refl same-related same-viewed same-blocks (subst (λ (x : ℕ). 0 < x) counted some)
 
-        pub b-below : b < n
+        pub loop-below : steps < n * n
         unfolding tableLts
-        b-below = subst (λ (x : ℕ). x < n) (sym b-is) (chosen-below L wf preorder pre schedule steps related viewed blocks state (getD schedule steps 0) any)
+        loop-below = state-below L wf preorder pre schedule steps related viewed blocks state any
 
-        pub loop-next : (related′ viewed′ blocks′ : List ℕ) → related′ ≡ matrixOf n (stepOf L b s .related) → viewed′ ≡ matrixOf n (stepOf L b s .viewed)
-            → blocks′ ≡ matrixOf n (block (stepOf L b s .related)) → State L preorder schedule (steps + 1) related′ viewed′ blocks′
+        module _ (b : ℕ) (chose : b ≡ getD (passing n (inRow pending)) (getD schedule steps 0 % c) 0) where
+          b-is : b ≡ chosen L (getD schedule steps 0) s
+          unfolding tableLts
+          b-is = chose ∙ ap (λ (x : ℕ). getD (passing n (inRow pending)) (getD schedule steps 0 % x) 0) count
+              ∙ ap (λ (l : List ℕ). getD l (getD schedule steps 0 % length l) 0) listed
+              ∙ partition.chosen-is L s n (relationOf n related) (relationOf n viewed) (relationOf n blocks) refl same-related same-viewed same-blocks (getD schedule steps 0)
+
+          pub b-below : b < n
+          unfolding tableLts
+          b-below = subst (λ (x : ℕ). x < n) (sym b-is) (chosen-below L wf preorder pre schedule steps related viewed blocks state (getD schedule steps 0) any)
+
+          pub loop-next : (related′ viewed′ blocks′ : List ℕ) → related′ ≡ matrixOf n (stepOf L b s .related) → viewed′ ≡ matrixOf n (stepOf L b s .viewed)
+              → blocks′ ≡ matrixOf n (block (stepOf L b s .related)) → State L preorder schedule (steps + 1) related′ viewed′ blocks′
+          unfolding tableLts
+          loop-next related′ viewed′ blocks′ e d k = rw add-one (state-next L wf preorder pre schedule steps related viewed blocks state b related′ viewed′ blocks′ any b-is e d k)
+
+      module _ (none : c ≡ 0) where
+        ended : coarsest L preorder schedule ≡ record { final = s; steps = steps }
         unfolding tableLts
-        loop-next related′ viewed′ blocks′ e d k = rw add-one (state-next L wf preorder pre schedule steps related viewed blocks state b related′ viewed′ blocks′ any b-is e d k)
+        ended = state-end L wf preorder pre schedule steps related viewed blocks state
+            (partition.none-pending L s n (relationOf n related) (relationOf n viewed) (relationOf n blocks) refl same-related same-viewed same-blocks (sym counted ∙ none))
 
-    module _ (c : ℕ) (count : c ≡ length (passing n (pendingAt n related viewed blocks))) (none : c ≡ 0) where
-      ended : coarsest L preorder schedule ≡ record { final = s; steps = steps }
-      unfolding tableLts
-      ended = state-end L wf preorder pre schedule steps related viewed blocks state
-          (partition.none-pending L s n (relationOf n related) (relationOf n viewed) (relationOf n blocks) refl same-related same-viewed same-blocks (sym count ∙ none))
+        pub end-steps : steps ≡ coarsest L preorder schedule .steps
+        end-steps = sym (ap (λ (r : Run). r .steps) ended)
 
-      pub end-steps : steps ≡ coarsest L preorder schedule .steps
-      end-steps = sym (ap (λ (r : Run). r .steps) ended)
+        pub end-related : related ≡ matrixOf n (coarsest L preorder schedule .final .related)
+        unfolding tableLts relationsOf
+        end-related = state .related-is ∙ sym (ap (λ (r : Run). matrixOf n (r .final .related)) ended)
 
-      pub end-related : related ≡ matrixOf n (coarsest L preorder schedule .final .related)
-      unfolding tableLts relationsOf
-      end-related = state .related-is ∙ sym (ap (λ (r : Run). matrixOf n (r .final .related)) ended)
-
-      pub end-blocks : blocks ≡ matrixOf n (block (coarsest L preorder schedule .final .related))
-      unfolding tableLts relationsOf
-      end-blocks = state .blocks-is ∙ sym (ap (λ (r : Run). matrixOf n (block (r .final .related))) ended)
+        pub end-blocks : blocks ≡ matrixOf n (block (coarsest L preorder schedule .final .related))
+        unfolding tableLts relationsOf
+        end-blocks = state .blocks-is ∙ sym (ap (λ (r : Run). matrixOf n (block (r .final .related))) ended)
