@@ -1,7 +1,6 @@
 -- Which states are settled in a round: those whose rows the round left as they were. Assumes nothing.
-use Prim.Native.Nat.{ℕ, _+_, _*_, _^_, _<_, _≤_}
+use Prim.Native.Nat.{ℕ, _+_, _*_, _^_, _<_}
 use mathlib.Core.Path.{_≡_, refl, sym, _∙_, ap, ap₂, subst⁻¹}
-use mathlib.Core.Logic.{_⊎_, inl, inr, ⊎-elim}
 use mathlib.Core.Bool.{Bool, true, false, not, _&&_, _||_, xor}
 use mathlib.Core.List.{List}
 use native.Mathlib.Omega.{arith}
@@ -13,7 +12,7 @@ use Rattle.lts.specs.Bounded.{anyBelow, allBelow, restrict}
 use Rattle.lts.specs.System.{Set, Rel, Lts, into, anyState}
 use Rattle.lts.specs.Table.{Table, tableLts}
 use Rattle.relation.specs.Matrix.{inRow, rowOf, rowWords, statesBelow, relationOf, matrixOf, Matrix}
-use Rattle.relation.proofs.Bounded.{either, clash, bool-iff, and-fst, and-snd, all-at, any-yes, any-some, any-cong}
+use Rattle.relation.proofs.Bounded.{clash, bool-iff, and-fst, and-snd, all-at, any-yes, any-some, any-cong}
 use Rattle.relation.proofs.Rows.{inRow-of, inRow-zeros, getD-zeros, rowOf-cong, gathered, gather-none, gather-in, gather-out}
 use Rattle.relation.proofs.Matrices.{relation-of, states-in}
 use Rattle.relation.proofs.Checks.{rows-differ}

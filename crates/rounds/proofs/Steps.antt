@@ -1,5 +1,5 @@
 -- One round on a transition table. Assumes nothing.
-use Prim.Native.Nat.{ℕ, zero, suc, _+_, _*_, _/_, _%_, _≤_, _<_}
+use Prim.Native.Nat.{ℕ, zero, suc, _+_, _*_, _<_}
 use mathlib.Core.Path.{_≡_, refl, sym, _∙_, ap, ap₂, subst, subst⁻¹, fun-ext}
 use mathlib.Core.Logic.{_⊎_, inl, inr}
 use mathlib.Core.Bool.{Bool, true, false, cond, not, _&&_, _||_}
@@ -9,16 +9,16 @@ use native.Mathlib.Numerals.{add-one}
 use lib.Dec.{T, eqb, eqb→eq, eqb-refl}
 use lib.ListN.{length, getD, drop, replicate}
 use borrow.Author.Tests.{eq-eqb, ne-eqb, eqb-false}
-use Rattle.lts.specs.Bounded.{_⇒_, anyBelow, allBelow, restrict}
-use Rattle.lts.specs.System.{Set, Rel, Lts, into, answered, anyState}
+use Rattle.lts.specs.Bounded.{_⇒_, allBelow, restrict}
+use Rattle.lts.specs.System.{Set, Rel, Lts, into, answered}
 use Rattle.lts.specs.Table.{Table, tableLts}
 use Rattle.lts.specs.Rounds.{round}
 use Rattle.lts.proofs.Bounded.{and-iff, imp-iff, all-iff, test-ext, restrict-iff, restrict-at, restrict-same}
 use Rattle.lts.proofs.System.{into-to, into-from, answered-iff}
-use Rattle.relation.specs.Matrix.{inRow, rowOf, rowWords, relationOf, matrixOf, setRow, Matrix}
+use Rattle.relation.specs.Matrix.{inRow, rowOf, rowWords, relationOf, matrixOf, setRow}
 use Rattle.relation.proofs.Bounded.{either, true-T, and-fst}
 use Rattle.relation.proofs.Rows.{inRow-of, inRow-zeros}
-use Rattle.relation.proofs.Matrices.{inRow-drop, relation-of, relation-matrix, matrixOf-cong, matrix-relation, set-here, set-other}
+use Rattle.relation.proofs.Matrices.{inRow-drop, relation-of, matrixOf-cong, set-here, set-other}
 use Rattle.simulation.proofs.Tables.{table-to, table-from, table-formed}
 use Rattle.rounds.specs.Rounds.{nextRound, Settled}
 

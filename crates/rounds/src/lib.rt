@@ -40,7 +40,7 @@ fn keep_answering(
     relation::keep_states(next, n, sources[i] as usize, &set);
 }
 
-// Writes the round after `current` into `next`. What is `settled` needs no test.
+// Writes the round after `current` into `next`. A transition into a `settled` state takes nothing out of it.
 pub fn next_round(
     n: usize,
     m: usize,
