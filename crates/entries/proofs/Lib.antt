@@ -1,0 +1,5 @@
+pub mod Reborrow
+pub mod SharedReborrow
+pub mod LocalArray
+pub mod Element
+pub mod Copies
