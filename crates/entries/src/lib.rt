@@ -34,17 +34,17 @@ fn copy_in(plan: &mut [lts::Entry], c: usize, numbers: &[u16])
     }
 }
 
-// Check plan on a lent slice of entries: they are taken one by one.
+// Check plan on a lent slice of entries, of any length: they are taken one by one.
 pub fn check_entries(s: &[u8], preorder: &[u64], plan: &[lts::Entry]) -> strategy::Verdict
     ensures { λ r. ⌜ r ≡ checkStrategy (now (s .entry)) (now (preorder .entry)) (numbersOf (now (plan .entry))) ⌝ }
     ensures { λ _. ⌜ Promised (now (s .entry)) (now (preorder .entry)) ⌝ }
 {
     let mut work = [0u16; 69636];
     let n = plan.len();
-    let mut i = 0;
-    while i < n {
-        strategy_parts::take_entry(s, preorder, &mut work, i, plan[i]);
-        i = i + 1;
+    let mut at = 0;
+    while at < n {
+        strategy_parts::take_entry(s, preorder, &mut work, at, plan[at]);
+        at = at + 1;
     }
     strategy_parts::conclude(s, preorder, &mut work, n)
 }
