@@ -1,5 +1,7 @@
 pub mod Reborrow
 pub mod SharedReborrow
 pub mod LocalArray
+pub mod Steps
 pub mod Element
 pub mod Copies
+pub mod Writings
