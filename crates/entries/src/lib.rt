@@ -6,7 +6,8 @@ ghost use lib.ListN.{length, getD, take, drop};
 ghost use Rattle.lts.specs.Strategy.{entriesOf, numbersOf};
 ghost use Rattle.strategy.specs.Check.{checkStrategy};
 ghost use Rattle.strategy.specs.Demand.{Promised};
-ghost use Rattle.entries.specs.Entries.{blank};
+ghost use Rattle.strategy.specs.Write.{writeStrategy};
+ghost use Rattle.entries.specs.Entries.{blank, entryCount, numberCount, WrittenWithin};
 
 // The entry of the four numbers from 4i.
 fn entry_of(numbers: &[u16], i: usize) -> lts::Entry
@@ -32,6 +33,58 @@ fn copy_in(plan: &mut [lts::Entry], c: usize, numbers: &[u16])
         plan[i] = entry_of(numbers, i);
         i = i + 1;
     }
+}
+
+// How many entries an answer counts: none where it is a refusal.
+fn entry_count(answer: strategy::Written) -> usize
+    ensures { λ r. ⌜ r ≡ entryCount answer ⌝ }
+{
+    match answer {
+        strategy::Written::Entries(c) => c,
+        strategy::Written::Refused(_) => 0,
+    }
+}
+
+// How many numbers carry so many entries, and at most those of the longest strategy, 4 * 256 * 256.
+fn number_count(room: usize) -> usize
+    ensures { λ r. ⌜ r ≡ numberCount room ⌝ }
+{
+    if room <= 65536 { 4 * room } else { 262144 }
+}
+
+// Writes into the first numbers what a list of `room` entries has room for.
+fn write_within(
+    s: &[u8],
+    preorder: &[u64],
+    p: usize,
+    q: usize,
+    room: usize,
+    numbers: &mut [u16],
+) -> strategy::Written
+    requires { ⌜ 262144 ≤ length (now numbers) ⌝ }
+    ensures { λ r. ⌜ WrittenWithin (now (s .entry)) (now (preorder .entry)) p q room r (now (numbers .exit)) ⌝ }
+{
+    let size = number_count(room);
+    strategy::write_strategy(s, preorder, p, q, &mut numbers[..size])
+}
+
+// Write plan: the strategy of the refuted pair (p, q). Entries past the strategy's stay as they are.
+pub fn write_entries(
+    s: &[u8],
+    preorder: &[u64],
+    p: usize,
+    q: usize,
+    plan: &mut [lts::Entry],
+) -> strategy::Written
+    ensures { λ r. ⌜ r ≡ writeStrategy (now (s .entry)) (now (preorder .entry)) p q (numbersOf (now (plan .entry))) .answer ⌝ }
+    ensures { λ _. ⌜ now (plan .exit) ≡ entriesOf (writeStrategy (now (s .entry)) (now (preorder .entry)) p q (numbersOf (now (plan .entry))) .numbers) ⌝ }
+    ensures { λ _. ⌜ Promised (now (s .entry)) (now (preorder .entry)) ⌝ }
+{
+    let mut numbers = [0u16; 262144];
+    let answer = write_within(s, preorder, p, q, plan.len(), &mut numbers);
+    let count = entry_count(answer);
+    copy_in(plan, count, &numbers);
+    answer
 }
 
 // Check plan on a lent slice of entries, of any length: they are taken one by one.

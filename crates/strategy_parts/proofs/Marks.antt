@@ -5,7 +5,7 @@ use mathlib.Core.Logic.{_⊎_, inl, inr}
 use mathlib.Core.Bool.{Bool, true, false, not, _&&_, _||_}
 use mathlib.Core.List.{List}
 use native.Mathlib.Omega.{arith}
-use lib.Dec.{T, eqb, ltb}
+use lib.Dec.{eqb, ltb}
 use lib.ListN.{getD}
 use borrow.Author.Tests.{eq-eqb, lt-ltb, le-ltb, eqb-true, ltb-true, not-true}
 use Rattle.lts.specs.Bounded.{_⇒_}
@@ -14,7 +14,7 @@ use Rattle.lts.specs.Table.{Table, Rows, tableLts}
 use Rattle.lts.proofs.Table.{table-formed}
 use Rattle.relation.proofs.Bounded.{clash, either, true-T, and-fst, and-snd, all-yes, all-not, all-cong}
 use Rattle.strategy_check.specs.Entries.{outside}
-use Rattle.strategy_check.proofs.Rows.{Between, InRow, row-below, row-transition, transition-row}
+use Rattle.strategy_check.proofs.Rows.{Between, row-below, row-transition, transition-row}
 use Rattle.strategy_parts.specs.Parts.{marked, openAt, repliesIn, soundOn}
 
 pub open-is : (actions targets work : List ℕ) (a t i : ℕ) {x r : ℕ} → x ≡ getD actions i 0 → r ≡ getD targets i 0

@@ -1,20 +1,19 @@
 -- What an entry that is judged, one that is taken, and the answer do to what the work knows. Assumes nothing.
-use Prim.Native.Nat.{ℕ, zero, suc, _+_, _*_, _-_, _%_, _≤_, _<_}
-use mathlib.Core.Path.{_≡_, refl, sym, _∙_, ap, ap₂, subst, fun-ext}
+use Prim.Native.Nat.{ℕ, zero, suc, _+_, _*_, _-_, _≤_, _<_}
+use mathlib.Core.Path.{_≡_, refl, sym, _∙_, ap, ap₂, subst}
 use mathlib.Core.Logic.{_⊎_, inl, inr}
-use mathlib.Core.Bool.{Bool, true, false, cond, not, _&&_, _||_}
+use mathlib.Core.Bool.{Bool, true, false, cond, _&&_, _||_}
 use mathlib.Core.List.{List, [], _∷_, _++_, append-assoc, append-nil}
 use native.Mathlib.Omega.{arith}
 use native.Mathlib.Numerals.{add-one}
 use lib.Dec.{eqb}
-use lib.ListN.{length, getD, set, replicate, length-set, length-append, getD-replicate}
+use lib.ListN.{length, getD, set, length-set}
 use lib.Seq.{getD-set-same, getD-set-other}
-use borrow.Author.Tests.{eq-eqb, ne-eqb, eqb-true}
+use borrow.Author.Tests.{eq-eqb, eqb-true}
 use Rattle.lts.specs.declared.Entry.{Entry}
-use Rattle.lts.specs.declared.Refusal.the-variants.{Unsound}
 use Rattle.lts.specs.Bounded.{listBelow}
 use Rattle.lts.specs.System.{Set, Rel, Lts, WellFormed, allStates}
-use Rattle.lts.specs.Strategy.{holds, sound, allSound, accepted, lastOf, entriesOf, numbersOf}
+use Rattle.lts.specs.Strategy.{holds, sound, allSound, lastOf, entriesOf, numbersOf}
 use Rattle.lts.specs.Table.{tableLts, withTerminating, markedSet}
 use Rattle.encoding.specs.declared.Header.{Header}
 use Rattle.encoding.specs.declared.Reading.the-variants.{Readable}
@@ -22,17 +21,9 @@ use Rattle.encoding.specs.Encoding.{readEncoding}
 use Rattle.encoding.specs.Denotation.{ltsOf}
 use Rattle.encoding.specs.Loaded.{Loaded}
 use Rattle.encoding.proofs.Laws.{denoted}
-use Rattle.relation.specs.declared.Checked.{Checked}
-use Rattle.relation.specs.declared.Checked.the-variants.{Preorder, Refused as NoPreorder}
-use Rattle.relation.specs.Check.{checkPreorder}
-use Rattle.relation.specs.Matrix.{relationOf}
 use Rattle.relation.proofs.Bounded.{clash, either}
 use Rattle.strategy_check.specs.Entries.{outside}
-use Rattle.strategy.specs.declared.Verdict.{Verdict}
-use Rattle.strategy.specs.declared.Verdict.the-variants.{Last, Refused}
-use Rattle.strategy.specs.Check.{onPreorder, checkReadable, checkStrategy}
-use Rattle.strategy.proofs.Checks.{readable}
-use Rattle.strategy_parts.specs.Parts.{marked, waitingEntry, withWaiting, repliesIn, soundOn, judgeEntry, judgeWaiting, Judged, Taken, Judges, SameWaiting, answered}
+use Rattle.strategy_parts.specs.Parts.{marked, waitingEntry, repliesIn, soundOn, judgeEntry, judgeWaiting, Judged, SameWaiting}
 use Rattle.strategy_parts.proofs.Marks.{sound-states, sound-agree}
 
 and-true : (b : Bool) → b && true ≡ b

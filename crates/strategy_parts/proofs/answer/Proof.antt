@@ -1,5 +1,4 @@
-use mathlib.Core.Path.{_≡_, sym, _∙_}
-use native.Mathlib.Omega.{arith}
+use mathlib.Core.Path.{sym, _∙_}
 use Rattle.strategy_parts.proofs.Answers.{answer-no-preorder, answer-unsound, answer-last, count-some}
 use borrow.Author.Needs.{needs}
 use Rattle.strategy_parts.proofs.answer.Statement.{statement}

@@ -1,4 +1,4 @@
-use mathlib.Core.Path.{_≡_, refl, sym, _∙_}
+use mathlib.Core.Path.{sym, _∙_}
 use Rattle.encoding.proofs.Laws.{denoted}
 use Rattle.strategy.proofs.Checks.{unreadable}
 use Rattle.strategy.proofs.Promise.{promised}

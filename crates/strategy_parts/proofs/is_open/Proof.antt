@@ -1,4 +1,3 @@
-use mathlib.Core.Path.{_≡_}
 use Rattle.strategy_parts.proofs.Marks.{open-is}
 use borrow.Author.Needs.{needs}
 use Rattle.strategy_parts.proofs.is_open.Statement.{statement}

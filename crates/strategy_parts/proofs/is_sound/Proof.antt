@@ -1,5 +1,4 @@
-use mathlib.Core.Path.{_≡_, refl, sym, _∙_, ap}
-use mathlib.Core.Bool.{Bool, _&&_}
+use mathlib.Core.Path.{sym, _∙_}
 use borrow.Author.Tests.{not-true, not-false}
 use Rattle.strategy_parts.proofs.Marks.{unsound-p, unsound-q, sound-outside, unsound-transition, sound-replies, target-below}
 use borrow.Author.Needs.{needs}

@@ -1,4 +1,4 @@
-use mathlib.Core.Path.{_≡_, refl, sym, _∙_}
+use mathlib.Core.Path.{refl, sym, _∙_}
 use denote.Ref.{now}
 use Rattle.strategy_parts.proofs.Answers.{judges-none, judges-at}
 use borrow.Author.Needs.{needs}

@@ -1,4 +1,4 @@
-use mathlib.Core.Path.{_≡_, sym, _∙_}
+use mathlib.Core.Path.{sym, _∙_}
 use native.Mathlib.Omega.{arith}
 use Rattle.strategy_parts.proofs.Marks.{sound-place}
 use Rattle.strategy_parts.proofs.Steps.{marks-pair, verdict-falls}

@@ -1,4 +1,4 @@
-use mathlib.Core.Path.{_≡_, _∙_}
+use mathlib.Core.Path.{_∙_}
 use Rattle.strategy_parts.proofs.Steps.{waiting-loaded}
 use borrow.Author.Needs.{needs}
 use Rattle.strategy_parts.proofs.judge_loaded.Statement.{statement}

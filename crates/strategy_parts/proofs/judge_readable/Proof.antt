@@ -1,4 +1,4 @@
-use mathlib.Core.Path.{_≡_, refl, sym, _∙_}
+use mathlib.Core.Path.{refl, sym, _∙_}
 use denote.Ref.{now}
 use Rattle.encoding.proofs.Laws.{denoted}
 use Rattle.encoding.proofs.Reader.{readable-of}

@@ -1,4 +1,4 @@
-use mathlib.Core.Path.{_≡_, refl, sym, _∙_}
+use mathlib.Core.Path.{refl}
 use Rattle.strategy_parts.proofs.Answers.{taken-waits, taken-whole}
 use borrow.Author.Needs.{needs}
 use Rattle.strategy_parts.proofs.take_entry.Statement.{statement}
