@@ -4,10 +4,11 @@
 //! `cargo run --release --offline -p bench [MILLISECONDS]` spends at least
 //! that long on each row (default 200).
 
+mod clock;
 mod families;
 mod rivals;
 
-use std::time::{Duration, Instant};
+use std::time::Duration;
 
 use families::{Family, FAMILIES};
 use reference::lts::Lts;
@@ -43,12 +44,12 @@ fn main() {
 /// The median time of each program, run in turn until the budget is used.
 fn medians(budget: Duration, jobs: &mut [Job]) -> Vec<Duration> {
     let mut times = vec![Vec::new(); jobs.len()];
-    let begin = Instant::now();
-    while times[0].len() < FEWEST_RUNS || begin.elapsed() < budget {
+    let begin = clock::now();
+    while times[0].len() < FEWEST_RUNS || clock::now() - begin < budget {
         for (job, times) in jobs.iter_mut().zip(&mut times) {
-            let start = Instant::now();
+            let start = clock::now();
             job();
-            times.push(start.elapsed());
+            times.push(clock::now() - start);
         }
     }
     times
