@@ -2,9 +2,10 @@
 //! and `k` transitions, so that the same families serve for one sheet at the
 //! limits and for two sheets of half the size.
 
-use reference::lts::{Action, Lts, State, Transition};
+use reference::lts::{Lts, State};
 use reference::prng::Prng;
 use reference::random;
+use reference::shapes::{cycle, loops, path, tree, Move};
 
 /// A family: its name, what it is, and its flow within the given limits.
 pub struct Family {
@@ -12,9 +13,6 @@ pub struct Family {
     pub about: &'static str,
     pub build: fn(usize, usize) -> Lts,
 }
-
-/// A triple, as [`Lts::of`] takes it.
-type Move = (State, Action, State);
 
 /// All families.
 pub const FAMILIES: &[Family] = &[
@@ -31,12 +29,12 @@ pub const FAMILIES: &[Family] = &[
     Family {
         name: "tree",
         about: "a binary tree, one action",
-        build: |n, _| Lts::of(n - 1, 1, &tree(n, 1)),
+        build: |n, _| Lts::of(n - 1, 1, &tree(n - 1, 1)),
     },
     Family {
         name: "tree, two actions",
         about: "a binary tree, one action to the left and one to the right",
-        build: |n, _| Lts::of(n - 1, 2, &tree(n, 2)),
+        build: |n, _| Lts::of(n - 1, 2, &tree(n - 1, 2)),
     },
     Family {
         name: "dense random",
@@ -81,7 +79,7 @@ pub const FAMILIES: &[Family] = &[
     Family {
         name: "self-loops",
         about: "each state loops with four random actions of 16",
-        build: |n, k| Lts::of(n, 16, &loops(n, 16, k / n)),
+        build: |n, k| Lts::of(n, 16, &loops(&mut Prng::new(3), n, 16, k / n)),
     },
     Family {
         name: "chain, end marks",
@@ -130,36 +128,9 @@ pub const FAMILIES: &[Family] = &[
     },
 ];
 
-/// A chain of `n` states.
-fn path(n: usize) -> Vec<Move> {
-    (1..n).map(|p| (p - 1, 1, p)).collect()
-}
-
 /// A cycle of n/2 states, and after it one of n/2 - 1.
 fn two_cycles(n: usize) -> Vec<Move> {
-    let half = n / 2;
-    let mut moves: Vec<Move> = (0..half).map(|p| (p, 1, (p + 1) % half)).collect();
-    moves.extend((0..half - 1).map(|p| (half + p, 1, half + (p + 1) % (half - 1))));
-    moves
-}
-
-/// A binary tree of n - 1 states with the given number of actions.
-fn tree(n: usize, actions: usize) -> Vec<Move> {
-    (1..n - 1)
-        .map(|p| ((p - 1) / 2, 1 + p % actions, p))
-        .collect()
-}
-
-/// Each state loops with `each` different random actions.
-fn loops(n: usize, actions: usize, each: usize) -> Vec<Move> {
-    let mut rng = Prng::new(3);
-    let mut all: Vec<Action> = (1..=actions).collect();
-    let mut moves = Vec::new();
-    for p in 0..n {
-        rng.shuffle(&mut all);
-        moves.extend(all[..each].iter().map(|&a| (p, a, p)));
-    }
-    moves
+    [cycle(0, n / 2), cycle(n / 2, n / 2 - 1)].concat()
 }
 
 /// A random flow, the same one for the same numbers.
@@ -169,10 +140,6 @@ fn random_flow(n: usize, m: usize, k: usize, marks: usize) -> Lts {
 
 /// A flow with the end mark on some states.
 fn marked(n: usize, m: usize, moves: &[Move], mark: impl Fn(State) -> bool) -> Lts {
-    let transitions = moves.iter().map(|&(source, action, target)| Transition {
-        source,
-        action,
-        target,
-    });
-    Lts::new(m, (0..n).map(mark).collect(), transitions.collect())
+    let flow = Lts::of(n, m, moves);
+    Lts::new(m, (0..n).map(mark).collect(), flow.transitions().to_vec())
 }

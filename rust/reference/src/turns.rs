@@ -7,6 +7,9 @@ use crate::relation::{Preorder, Relation};
 use crate::sheet;
 use crate::state_set::StateSet;
 
+/// A set of actions. No action is as large as 256, so a set of states serves.
+type ActionSet = StateSet;
+
 /// The two relations that the turns work on.
 pub struct Turns<'a> {
     lts: &'a Lts,
@@ -30,8 +33,9 @@ impl<'a> Turns<'a> {
     /// where p has an action that q has not.
     pub fn begin(lts: &'a Lts, start: &Preorder) -> Turns<'a> {
         let n = lts.states();
-        let lacks =
-            |p: State, q: State| (1..=lts.actions()).any(|a| lts.can(p, a) && !lts.can(q, a));
+        let can = |p: State| lts.moves_of(p).iter().map(|step| step.action).collect();
+        let actions: Vec<ActionSet> = (0..n).map(can).collect();
+        let lacks = |p: State, q: State| !actions[p].is_subset(&actions[q]);
         let k = Relation::from_fn(n, |p, q| start.contains(p, q) && !lacks(p, q));
         Turns {
             lts,
