@@ -103,34 +103,45 @@ pub const FAMILIES: &[Family] = &[
         },
     },
     Family {
-        name: "chain, looping actions",
-        about: "a chain; its last states loop with 63 further actions as far as k allows",
+        name: "chain, four actions",
+        about: "a chain, each step with as many of four actions as k allows",
         build: |n, k| {
-            let mut moves = path(n);
-            let states = (k - moves.len()) / 63;
-            for p in n - states..n {
-                moves.extend((2..=64).map(|a| (p, a, p)));
-            }
-            Lts::of(n, 64, &moves)
+            let actions = k / n;
+            let moves = (1..n).flat_map(|p| (1..=actions).map(move |a| (p - 1, a, p)));
+            Lts::of(n, actions, &moves.collect::<Vec<Move>>())
         },
+    },
+    Family {
+        name: "chain, last states loop",
+        about: "a chain; its last states loop with 63 further actions as far as k allows",
+        build: |n, k| chain_with_loops(n, |loops| n - loops, k),
     },
     Family {
         name: "chain, first states loop",
         about: "a chain; its first states loop with 63 further actions as far as k allows",
-        build: |n, k| {
-            let mut moves = path(n);
-            let states = (k - moves.len()) / 63;
-            for p in 0..states {
-                moves.extend((2..=64).map(|a| (p, a, p)));
-            }
-            Lts::of(n, 64, &moves)
-        },
+        build: |n, k| chain_with_loops(n, |_| 0, k),
+    },
+    Family {
+        name: "small",
+        about: "F3 of document 01: three states, two moves",
+        build: |_, _| Lts::of(3, 1, &[(0, 1, 1), (2, 1, 2)]),
     },
 ];
 
 /// A cycle of n/2 states, and after it one of n/2 - 1.
 fn two_cycles(n: usize) -> Vec<Move> {
     [cycle(0, n / 2), cycle(n / 2, n / 2 - 1)].concat()
+}
+
+/// A chain of `n` states where some states, from `first` of their number on,
+/// loop with actions 2 to 64, so many that there are at most `k` moves.
+fn chain_with_loops(n: usize, first: impl Fn(usize) -> State, k: usize) -> Lts {
+    let mut moves = path(n);
+    let looping = (k - moves.len()) / 63;
+    for p in first(looping)..first(looping) + looping {
+        moves.extend((2..=64).map(|a| (p, a, p)));
+    }
+    Lts::of(n, 64, &moves)
 }
 
 /// A random flow, the same one for the same numbers.

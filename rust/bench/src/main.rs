@@ -61,30 +61,66 @@ fn medians(budget: Duration, jobs: &mut [Job]) -> Vec<Duration> {
         .collect()
 }
 
-/// The times in microseconds and the ratios of the first to the others.
-fn columns(times: &[Duration]) -> String {
-    let micros = |time: &Duration| time.as_nanos() as f64 / 1000.0;
-    let mut text = String::new();
-    for time in times {
-        text += &format!("{:.1} | ", micros(time));
-    }
-    for time in &times[1..] {
-        text += &format!("{:.2} | ", micros(&times[0]) / micros(time));
-    }
-    text
+/// A table that is printed row by row, and the ratios of its rows.
+struct Table {
+    call: &'static str,
+    /// The rows' names, and the ratio of the call's time to each program's.
+    ratios: Vec<(String, Vec<f64>)>,
 }
 
-/// The heads of those columns, and the line below.
-fn heads(first: &str, call: &str) -> String {
-    let mut head = format!("{first} {call} µs | ");
-    for (name, _) in RIVALS {
-        head += &format!("{name} µs | ");
+impl Table {
+    /// Prints the head of a table whose rows begin with the given columns.
+    fn begin(first: &str, call: &'static str) -> Table {
+        let mut head = format!("{first} {call} µs |");
+        for (name, _) in RIVALS {
+            head += &format!(" {name} µs |");
+        }
+        for (name, _) in RIVALS {
+            head += &format!(" {call} / {name} |");
+        }
+        println!("{head}\n|{}", "---|".repeat(head.matches('|').count() - 1));
+        Table {
+            call,
+            ratios: Vec::new(),
+        }
     }
-    for (name, _) in RIVALS {
-        head += &format!("{call} / {name} | ");
+
+    /// Prints a row: its first columns, then times and ratios.
+    fn row(&mut self, name: String, first: &str, times: &[Duration]) {
+        let micros: Vec<f64> = times.iter().map(|t| t.as_nanos() as f64 / 1e3).collect();
+        let ratios: Vec<f64> = micros[1..].iter().map(|time| micros[0] / time).collect();
+        let mut row = first.to_string();
+        for time in &micros {
+            row += &format!(" {time:.1} |");
+        }
+        for ratio in &ratios {
+            row += &format!(" {ratio:.2} |");
+        }
+        println!("{row}");
+        self.ratios.push((name, ratios));
     }
-    let line = "---|".repeat(head.matches('|').count() - 1);
-    format!("{}\n|{}", head.trim_end(), line)
+
+    /// Prints the largest ratios and the geometric means.
+    fn end(&self) {
+        println!();
+        for (at, (rival, _)) in RIVALS.iter().enumerate() {
+            let (name, worst) = self
+                .ratios
+                .iter()
+                .map(|(name, ratios)| (name, ratios[at]))
+                .max_by(|a, b| a.1.total_cmp(&b.1))
+                .expect("a table has rows");
+            let logs: f64 = self.ratios.iter().map(|(_, ratios)| ratios[at].ln()).sum();
+            let mean = (logs / self.ratios.len() as f64).exp();
+            let slower = self.ratios.iter().filter(|(_, ratios)| ratios[at] > 1.0);
+            println!(
+                "{} / {rival}: largest {worst:.2} ({name}), geometric mean {mean:.2}, above 1 in {} of {} rows.",
+                self.call,
+                slower.count(),
+                self.ratios.len()
+            );
+        }
+    }
 }
 
 /// The words of a relation as bytes.
@@ -116,31 +152,35 @@ fn turn_list(name: &str) -> Vec<u8> {
 
 /// Coarsest on sheets at the limits.
 fn coarsest_table(budget: Duration) {
-    println!(
-        "{}",
-        heads(
-            "| Family | n | k | m | Start | Turn list | Turns | Blocks |",
-            "flow_coarsest"
-        )
-    );
+    let head = "| Family | n | k | m | Start | Turn list | Turns | Blocks |";
+    let mut table = Table::begin(head, "flow_coarsest");
     for family in FAMILIES {
         let lts = (family.build)(256, 1024);
         let mut ways = vec![
             ("end start", "empty"),
             ("end start", "random"),
             ("linear order", "empty"),
+            ("linear order", "random"),
         ];
         if lts.end_marks().contains(&true) {
             ways.push(("all pairs", "empty"));
         }
         for (start, turns) in ways {
-            coarsest_row(budget, family, &lts, start, turns);
+            coarsest_row(&mut table, budget, family, &lts, start, turns);
         }
     }
+    table.end();
 }
 
 /// One row of it. All programs must give the same grid and names.
-fn coarsest_row(budget: Duration, family: &Family, lts: &Lts, start: &str, turns: &str) {
+fn coarsest_row(
+    table: &mut Table,
+    budget: Duration,
+    family: &Family,
+    lts: &Lts,
+    start: &str,
+    turns: &str,
+) {
     let n = lts.states();
     let sheet = random::shuffled_sheet(&mut Prng::new(1), lts);
     let start_bytes = grid_bytes(start_of(start, lts).relation());
@@ -180,50 +220,43 @@ fn coarsest_row(budget: Duration, family: &Family, lts: &Lts, start: &str, turns
         }));
     }
     let times = medians(budget, &mut jobs);
-    println!(
-        "| {} | {n} | {} | {} | {start} | {turns} | {} | {} | {}",
+    let first = format!(
+        "| {} | {n} | {} | {} | {start} | {turns} | {} | {} |",
         family.name,
         lts.transitions().len(),
         lts.actions(),
         counts.turns,
-        counts.blocks,
-        columns(&times).trim_end()
+        counts.blocks
     );
+    table.row(format!("{}; {start}", family.name), &first, &times);
 }
 
-/// Compare on two sheets of half the size.
+/// Compare on two sheets of half the size: each family with itself and with
+/// the next one.
 fn compare_table(budget: Duration) {
-    println!(
-        "{}",
-        heads("| First | Second | Answer | Turns |", "flow_compare")
-    );
-    let built: Vec<Lts> = FAMILIES.iter().map(|f| (f.build)(128, 512)).collect();
-    for (at, family) in FAMILIES.iter().enumerate() {
-        let other = (at + 1) % FAMILIES.len();
-        compare_row(budget, family.name, &built[at], family.name, &built[at]);
-        compare_row(
-            budget,
-            family.name,
-            &built[at],
-            FAMILIES[other].name,
-            &built[other],
-        );
+    let mut table = Table::begin("| First | Second | Answer | Turns |", "flow_compare");
+    let built: Vec<(&str, Lts)> = FAMILIES
+        .iter()
+        .map(|family| (family.name, (family.build)(128, 512)))
+        .collect();
+    for (at, first) in built.iter().enumerate() {
+        compare_row(&mut table, budget, first, first);
+        compare_row(&mut table, budget, first, &built[(at + 1) % built.len()]);
     }
+    table.end();
 }
 
 /// One row of it. All programs must give the same answer.
-fn compare_row(budget: Duration, first_name: &str, first: &Lts, second_name: &str, second: &Lts) {
-    let (first, second) = (sheet::write(first), sheet::write(second));
+fn compare_row(table: &mut Table, budget: Duration, first: &(&str, Lts), second: &(&str, Lts)) {
+    let names = format!("{} | {}", first.0, second.0);
+    let (first, second) = (sheet::write(&first.1), sheet::write(&second.1));
     let own = flow::compare(&first, &second).expect("readable sheets");
     let mut jobs: Vec<Job> = vec![Box::new(|| {
         let _ = flow::compare(&first, &second);
     })];
-    for (name, algorithm) in RIVALS {
+    for (rival, algorithm) in RIVALS {
         let yes = rivals::compared(algorithm, &first, &second).expect("readable sheets");
-        assert_eq!(
-            yes, own.yes,
-            "{name} differs on {first_name}, {second_name}"
-        );
+        assert_eq!(yes, own.yes, "{rival} differs on {names}");
         let (first, second) = (&first, &second);
         jobs.push(Box::new(move || {
             let _ = rivals::compared(algorithm, first, second);
@@ -231,9 +264,6 @@ fn compare_row(budget: Duration, first_name: &str, first: &Lts, second_name: &st
     }
     let times = medians(budget, &mut jobs);
     let answer = if own.yes { "yes" } else { "no" };
-    println!(
-        "| {first_name} | {second_name} | {answer} | {} | {}",
-        own.turns,
-        columns(&times).trim_end()
-    );
+    let columns = format!("| {names} | {answer} | {} |", own.turns);
+    table.row(names.replace(" |", ","), &columns, &times);
 }
