@@ -19,12 +19,12 @@ const MISSIZED: usize = 12;
 
 /// Where the independent program takes long on large flows, few are large.
 const FEW: Sizes = Sizes {
-    large: 5,
-    edges: 100,
+    large: 3,
+    edges: 60,
 };
 const MANY: Sizes = Sizes {
-    large: 200,
-    edges: 500,
+    large: 100,
+    edges: 300,
 };
 
 /// The case of a call and a seed.
