@@ -1,7 +1,6 @@
 -- What writing answers and writes into each plan: a refusal that does not look at the plan, or a strategy of at most 65,536 entries, where
 -- the plan has room for it. So it can be written into numbers first, and its entries copied. Assumes nothing.
 use Prim.Native.Nat.{ℕ, zero, suc, _+_, _*_, _/_, _≤_, _<_, zero-le, suc-le-suc}
-use native.Mathlib.Nat.{le-trans, le-refl}
 use native.Mathlib.Omega.{arith}
 use mathlib.Core.Path.{_≡_, refl, sym, _∙_, ap, subst⁻¹}
 use mathlib.Core.Bool.{Bool, true, false, cond, _&&_}
@@ -9,7 +8,7 @@ use mathlib.Core.List.{List, [], _∷_, _++_, append-assoc}
 use lib.Dec.{T, ltb, leb}
 use lib.ListN.{length, take, drop, length-append}
 use lib.Seq.{take-append-seam}
-use borrow.Author.Tests.{leb-true, leb-false, le-leb, lt-leb}
+use borrow.Author.Tests.{leb-true, leb-false, le-leb}
 use Rattle.lts.specs.Bounded.{sumBelow, countBelow, lowest}
 use Rattle.lts.specs.System.{Rel, Lts, WellFormed}
 use Rattle.lts.specs.Rounds.{refutedAt, refutationRound}
@@ -34,7 +33,7 @@ use Rattle.rounds.proofs.Refutations.{refuted-before, square-most}
 use Rattle.strategy.specs.declared.Written.{Written}
 use Rattle.strategy.specs.declared.Written.the-variants.{Entries, Refused}
 use Rattle.strategy.specs.Demand.{Promised}
-use Rattle.strategy.specs.Write.{Outcome, refuse, unless, writeOn, writeReadable, writeStrategy}
+use Rattle.strategy.specs.Write.{Outcome, refuse, unless, writeOn, writeStrategy}
 use Rattle.strategy.proofs.Writes.{states-below, unreadable-write, readable-write, no-preorder-write, no-state, passed}
 use Rattle.strategy_write.proofs.Writes.{length-numbers}
 use Rattle.entries.specs.Entries.{entryCount, numberCount, WrittenWithin}

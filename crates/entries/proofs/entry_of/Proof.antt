@@ -2,8 +2,6 @@
 use borrow.Author.Needs.{needs}
 use Rattle.entries.proofs.entry_of.Statement.{statement}
 use Rattle.entries.proofs.entry_of.Tie as tie
-use Rattle.entries.proofs.entry_of.Reads as reads
-use Rattle.entries.proofs.entry_of.Lts as lts
 use Rattle.entries.proofs.Copies.{entry-read}
 
 mul-k : tie.Need-mul-k

@@ -28,7 +28,7 @@ use sound.WpLaws.{fmOf, WpFn-mono}
 use denote.RattleType.{owns}
 use denote.Memory.{mem, shares}
 use denote.Laws.{Is, Makes, shows}
-use denote.Array.{Array, arrayVal, array-typed}
+use denote.Array.{Array, arrayVal}
 use denote.Lend.{Held, lends-slice, slice-back, lends-shr-slice}
 use denote.Index.{row, whole-out}
 use denote.Enum.Laws as EL
@@ -53,7 +53,7 @@ use Rattle.strategy.proofs.Written as N
 use Rattle.strategy.proofs.Written.Laws as N′
 use Rattle.entries.specs.Entries.{entryCount, WrittenWithin}
 use Rattle.entries.proofs.Element.{R}
-use Rattle.entries.proofs.LocalArray.{array-out, array-room, repeated, length-repeated, repeated-are, rep-repeated}
+use Rattle.entries.proofs.LocalArray.{array-out, array-room, repeated, length-repeated, repeated-are, repeated-stored, rep-repeated, init-stored}
 use Rattle.entries.proofs.Steps.{big-lit, three}
 use Rattle.entries.proofs.write_within as wr
 use Rattle.entries.proofs.write_within.Symbol as wr-def
@@ -226,7 +226,7 @@ module _ {M : Type 1} (𝓤 : URA M) (H : Heap 𝓤) (A : Atoms 𝓤) (W : Given
         move ! (35 ∷ []) $ fsplit ! $ move ! (1 ∷ []) $ fsplit ! $ move ! (1 ∷ []) $ fsplit ! $ drop ! $ fsplit ! $ drop ! $ fsplit ! $ move ! (38 ∷ []) $ split ! $ move ! (1 ∷ []) $ split ! $ move ! (1 ∷ []) $ split ! $
         keep ! (4 ∷ 0 ∷ 7 ∷ 3 ∷ 6 ∷ 2 ∷ 8 ∷ 9 ∷ 10 ∷ 11 ∷ 12 ∷ 13 ∷ 14 ∷ 15 ∷ 16 ∷ 17 ∷ 18 ∷ 19 ∷ 20 ∷ 21 ∷ 22 ∷ 23 ∷ 24 ∷ 25 ∷ 26 ∷ 27 ∷ 28 ∷ 29 ∷ 30 ∷ 31 ∷ 32 ∷ 33 ∷ 34 ∷ 35 ∷ 36 ∷ 37 ∷ 38 ∷ 39 ∷ 40 ∷ 41 ∷ []) $
         -- [the plan; its token; the encoding; its token; the preorder; its token; _16; …]: the array is made, and its slice
-        assigns ! (rep-repeated ! 262144 (lit ! tt)) (from ! (stop !)) (init ! 26 refl (array-typed u16 (uint-lawful 𝓤 H A W w16 .typed) 262144 zeros _ zeros-are .0)) $
+        assigns ! (rep-repeated ! 262144 (lit ! tt)) (from ! (stop !)) (init-stored ! 26 refl (repeated-stored u16 (uint-lawful 𝓤 H A W w16 .typed) 0 (vint w16 0) (refl, lit< tt) 262144)) $
         assigns ! (of-opd ! (load ! (from ! (fld ! refl (stop !))) (look-in ! 28 (sub ! 1 refl (whole !))))) (from ! (stop !)) (init ! 20 refl (tt, record { fits = room .0 })) $
         assigns ! (addr ! (from ! (stop !))) (from ! (stop !)) (init ! 18 refl (tt, tt)) $
         assigns ! (agg ! (and-then ! (load ! (from ! (stop !)) (look ! 18 refl)) (and-then ! (big-lit ! (record { fits = lit< tt })) (no-more !)))) (from ! (stop !)) (init ! 16 refl (tt, (tt, (record { fits = lit< tt }, tt)))) $

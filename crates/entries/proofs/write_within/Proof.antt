@@ -1,8 +1,6 @@
 -- `entries::write_within` meets its contract: the strategy goes into the first numbers, and the others follow.
-use Prim.Native.Nat.{ℕ}
-use mathlib.Core.Path.{_≡_, refl, sym, ap, _∙_}
+use mathlib.Core.Path.{refl, sym, _∙_}
 use native.Mathlib.Omega.{arith}
-use lib.ListN.{length, take, drop}
 use lib.Seq.{length-take-le}
 use borrow.Author.Needs.{needs}
 use Rattle.entries.proofs.Writings.{count-most, within}
