@@ -1,3 +1,4 @@
 pub mod Steps
+pub mod Settling
 pub mod Refutations
 pub mod Blank

@@ -1,5 +1,5 @@
 -- One round on a transition table. Assumes nothing.
-use Prim.Native.Nat.{ℕ, zero, suc, _+_, _*_, _/_, _%_, _≤_, _<_}
+use Prim.Native.Nat.{ℕ, zero, suc, _+_, _*_, _<_}
 use mathlib.Core.Path.{_≡_, refl, sym, _∙_, ap, ap₂, subst, subst⁻¹, fun-ext}
 use mathlib.Core.Logic.{_⊎_, inl, inr}
 use mathlib.Core.Bool.{Bool, true, false, cond, not, _&&_, _||_}
@@ -9,19 +9,18 @@ use native.Mathlib.Numerals.{add-one}
 use lib.Dec.{T, eqb, eqb→eq, eqb-refl}
 use lib.ListN.{length, getD, drop, replicate}
 use borrow.Author.Tests.{eq-eqb, ne-eqb, eqb-false}
-use Rattle.lts.specs.Bounded.{_⇒_, anyBelow, allBelow, restrict}
-use Rattle.lts.specs.System.{Set, Rel, Lts, into, answered, anyState}
+use Rattle.lts.specs.Bounded.{_⇒_, allBelow, restrict}
+use Rattle.lts.specs.System.{Set, Rel, Lts, into, answered}
 use Rattle.lts.specs.Table.{Table, tableLts}
 use Rattle.lts.specs.Rounds.{round}
 use Rattle.lts.proofs.Bounded.{and-iff, imp-iff, all-iff, test-ext, restrict-iff, restrict-at, restrict-same}
 use Rattle.lts.proofs.System.{into-to, into-from, answered-iff}
-use Rattle.relation.specs.Matrix.{bit, inRow, rowOf, rowWords, relationOf, matrixOf, setRow, Matrix}
-use Rattle.relation.proofs.Bounded.{either, T-true, true-T}
-use Rattle.relation.proofs.Bits.{bit-of-zero}
-use Rattle.relation.proofs.Rows.{inRow-of}
-use Rattle.relation.proofs.Matrices.{inRow-drop, relation-of, relation-matrix, matrixOf-cong, matrix-relation, set-here, set-other}
+use Rattle.relation.specs.Matrix.{inRow, rowOf, rowWords, relationOf, matrixOf, setRow}
+use Rattle.relation.proofs.Bounded.{either, true-T, and-fst}
+use Rattle.relation.proofs.Rows.{inRow-of, inRow-zeros}
+use Rattle.relation.proofs.Matrices.{inRow-drop, relation-of, matrixOf-cong, set-here, set-other}
 use Rattle.simulation.proofs.Tables.{table-to, table-from, table-formed}
-use Rattle.rounds.specs.Rounds.{nextRound}
+use Rattle.rounds.specs.Rounds.{nextRound, Settled}
 
 and-true : (b : Bool) → b && true ≡ b
 and-true true = refl
@@ -40,15 +39,6 @@ eq-or-not a b = go (either (eqb a b))
 
 restrict-twice : (n : ℕ) (R : Rel) → restrict n (restrict n R) ≡ restrict n R
 restrict-twice n R = restrict-same n (restrict n R) R (λ p q hp hq. restrict-at n R p q hp hq)
-
-inRow-none : (k q : ℕ) → inRow (replicate k 0) q ≡ false
-unfolding inRow
-inRow-none k q = ap (λ (x : ℕ). bit x (q % 64)) (zeros k (q / 64)) ∙ bit-of-zero (q % 64)
-  where
-    zeros : (k p : ℕ) → getD (replicate {A = ℕ} k 0) p 0 ≡ 0
-    zeros zero p = refl
-    zeros (suc k) zero = refl
-    zeros (suc k) (suc p) = zeros k p
 
 module _ (n m k : ℕ) (sources actions targets : List ℕ) where
   -- state p is not the source of number j, or q has an answer to it into R
@@ -96,6 +86,22 @@ module _ (n m k : ℕ) (sources actions targets : List ℕ) (ok : Table n m k so
           ∙ sym (kept-here R (getD sources i 0) q i refl))
       go p q hp hq (inr s) = set-other (getD sources i 0) S (relationOf n g) p q (λ z. s (sym z)) ∙ relation-of n (keeps R i) e p q hp hq ∙ sym (kept-other R p q i s)
 
+  -- a transition into a state of X takes nothing out
+  pub kept-settled : (R : Rel) (X : Set) (i : ℕ) → Settled n m k sources actions targets R X → i < k → X (getD targets i 0) ≡ true → matrixOf n (keeps R i) ≡ matrixOf n (keeps R (i + 1))
+  unfolding kept
+  kept-settled R X i settled h x = matrixOf-cong n _ _ (λ p q _ hq. go p q hq (eq-or-not (getD sources i 0) p))
+    where
+      absorb : (a b : Bool) → (a ≡ true → b ≡ true) → a ≡ a && b
+      absorb true b f = sym (f refl)
+      absorb false b f = refl
+
+      go : (p q : ℕ) → q < n → (getD sources i 0 ≡ p) ⊎ (getD sources i 0 ≡ p → ⊥) → keeps R i p q ≡ keeps R (i + 1) p q
+      go p q hq (inl e) =
+          absorb (keeps R i p q) (into L (getD actions i 0) (R (getD targets i 0)) q)
+          (λ t. settled i q h hq x (ap (λ (s : ℕ). R s q) e ∙ and-fst (R p q) (allBelow i (answers R p q)) t))
+          ∙ sym (kept-here R p q i e)
+      go p q hq (inr e) = sym (kept-other R p q i e)
+
   answered-table : (R : Rel) (p q : ℕ) → allBelow k (answers R p q) ≡ answered L (restrict n R) p q
   unfolding answersAt
   answered-table R p q = test-ext _ _ to from
@@ -137,7 +143,7 @@ module _ (n m k : ℕ) (sources actions targets : List ℕ) (ok : Table n m k so
       → inRow set q ≡ into L a (relationOf n g t) q
   answer-set g a t q h {reached} f s =
       ap (λ (l : List ℕ). inRow l q) s ∙ inRow-of 4 (λ q. inRow (replicate 4 0) q || into L a (inRow reached) q) q (omega (arith, ok .states))
-      ∙ ap (λ (b : Bool). b || into L a (inRow reached) q) (inRow-none 4 q)
+      ∙ ap (λ (b : Bool). b || into L a (inRow reached) q) (inRow-zeros 4 q)
       ∙ ap (λ (X : Set). into L a X q) (ap inRow f ∙ fun-ext (λ x. inRow-drop (rowWords n) g t x))
 
   -- what is kept by that set

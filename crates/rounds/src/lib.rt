@@ -6,8 +6,8 @@ ghost use lib.ListN.{length, getD};
 ghost use Rattle.lts.specs.Bounded.{restrict};
 ghost use Rattle.lts.specs.System.{into};
 ghost use Rattle.lts.specs.Table.{Table, tableLts};
-ghost use Rattle.relation.specs.Matrix.{relationOf, matrixOf, setRow, Matrix};
-ghost use Rattle.rounds.specs.Rounds.{nextRound, RefutationOf};
+ghost use Rattle.relation.specs.Matrix.{inRow, rowOf, statesBelow, relationOf, matrixOf, setRow, Matrix};
+ghost use Rattle.rounds.specs.Rounds.{nextRound, Settled, sameRows, RefutationOf};
 
 // Leaves in row p of `next` the states that have an answer into `current` to transition i, where p is its source.
 fn keep_answering(
@@ -40,7 +40,7 @@ fn keep_answering(
     relation::keep_states(next, n, sources[i] as usize, &set);
 }
 
-// Writes the round after `current` into `next`.
+// Writes the round after `current` into `next`. A transition into a `settled` state takes nothing out of it.
 pub fn next_round(
     n: usize,
     m: usize,
@@ -50,16 +50,40 @@ pub fn next_round(
     targets: &[u16; 1024],
     current: &[u64],
     next: &mut [u64],
+    settled: &[u64; 4],
 )
-    requires { ⌜ Table n m k (now sources) (now actions) (now targets) × Matrix n (now current) × (length (now current) ≡ length (now next)) ⌝ }
+    requires { ⌜ Table n m k (now sources) (now actions) (now targets) × Matrix n (now current) × (length (now current) ≡ length (now next)) × Settled n m k (now sources) (now actions) (now targets) (relationOf n (now current)) (inRow (now settled)) ⌝ }
     ensures { λ _. ⌜ now (next .exit) ≡ matrixOf n (nextRound (tableLts n m k (now (sources .entry)) (now (actions .entry)) (now (targets .entry))) (restrict n (relationOf n (now (current .entry))))) ⌝ }
 {
     relation::copy_matrix(next, current);
     let mut i = 0;
     while i < k {
-        keep_answering(n, m, k, sources, actions, targets, current, next, i);
+        if !relation::contains(settled, targets[i] as usize) {
+            keep_answering(n, m, k, sources, actions, targets, current, next, i);
+        }
         i += 1;
     }
+}
+
+// The states whose rows are the same in both matrices.
+pub fn same_rows(n: usize, before: &[u64], after: &[u64]) -> [u64; 4]
+    requires { ⌜ Matrix n (now before) × Matrix n (now after) × (n ≤ 256) ⌝ }
+    ensures { λ r. ⌜ r ≡ rowOf 4 (statesBelow n (sameRows n (relationOf n (now (before .entry))) (relationOf n (now (after .entry))))) ⌝ }
+{
+    let w = (n + 63) / 64;
+    let mut out = [0u64; 4];
+    let mut p = 0;
+    while p < n {
+        if !relation::row_differs(
+            relation::row_at(before, n, p),
+            relation::row_at(after, n, p),
+            w,
+        ) {
+            relation::insert(&mut out, p);
+        }
+        p += 1;
+    }
+    out
 }
 
 // The round at which a pair falls, n * n + 1 where it falls at none, and the number of entries of its strategy.
@@ -89,9 +113,10 @@ fn search_rounds(
     if !relation::has(current, w, p, q) {
         return Refutation { round: 0, count: 1 };
     }
+    let mut settled = [0u64; 4];
     let mut j = 0;
     loop {
-        next_round(n, m, k, sources, actions, targets, current, next);
+        next_round(n, m, k, sources, actions, targets, current, next, &settled);
         if !relation::has(next, w, p, q) {
             return Refutation {
                 round: j + 1,
@@ -105,6 +130,7 @@ fn search_rounds(
                 count: 0,
             };
         }
+        settled = same_rows(n, current, next);
         relation::copy_matrix(current, next);
         left = rest;
         j += 1;

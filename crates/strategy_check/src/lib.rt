@@ -64,7 +64,7 @@ fn replies_held(
 }
 
 // Whether p, a, t is a transition.
-fn has_transition(
+pub fn has_transition(
     n: usize,
     m: usize,
     k: usize,
@@ -91,7 +91,7 @@ fn has_transition(
 }
 
 // Whether a = t = 0 and the pair (p, q) is outside the preorder.
-fn is_outside(n: usize, preorder: &[u64], p: usize, q: usize, a: u16, t: u16) -> bool
+pub fn is_outside(n: usize, preorder: &[u64], p: usize, q: usize, a: u16, t: u16) -> bool
     requires { ⌜ Matrix n (now preorder) × (n ≤ 256) × (p < n) × (q < n) ⌝ }
     ensures { λ x. ⌜ x ≡ outside (relationOf n (now (preorder .entry))) p q a t ⌝ }
 {

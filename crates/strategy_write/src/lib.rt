@@ -333,6 +333,7 @@ fn write_rounds(
     ensures { λ r. ⌜ now (current .exit) ≡ matrixOf n (previous (tableLts n m k (now (sources .entry)) (now (actions .entry)) (now (targets .entry))) (relationOf n (now (next .entry))) rounds) ⌝ }
     ensures { λ r. ⌜ now (numbers .exit) ≡ sets (now (numbers .entry)) 0 (numbersOf (entriesBefore (tableLts n m k (now (sources .entry)) (now (actions .entry)) (now (targets .entry))) (relationOf n (now (next .entry))) rounds)) ⌝ }
 {
+    let mut settled = [0u64; 4];
     let mut at = 0;
     let mut i = 0;
     while i < rounds {
@@ -351,7 +352,8 @@ fn write_rounds(
             at,
         );
         relation::copy_matrix(current, next);
-        rounds::next_round(n, m, k, sources, actions, targets, current, next);
+        rounds::next_round(n, m, k, sources, actions, targets, current, next, &settled);
+        settled = rounds::same_rows(n, current, next);
         i += 1;
     }
     at

@@ -4,6 +4,7 @@ use crate::lts::Lts;
 use crate::refusal::Refusal;
 use crate::relation::{Preorder, Relation};
 use crate::sheet;
+use crate::state_set::StateSet;
 
 /// w, the words of one row for `n` states.
 pub fn words_per_row(n: usize) -> usize {
@@ -20,14 +21,15 @@ pub fn read(words: &[u64], n: usize) -> Result<Relation, Refusal> {
     if words.len() != length(n) {
         return Err(Refusal::GRID);
     }
-    let w = words_per_row(n);
-    let bit = |p: usize, q: usize| words[p * w + q / 64] >> (q % 64) & 1 == 1;
-    for p in 0..n {
-        if (n..64 * w).any(|q| bit(p, q)) {
-            return Err(Refusal::GRID);
-        }
+    let rows: Vec<StateSet> = words
+        .chunks_exact(words_per_row(n))
+        .map(StateSet::from_words)
+        .collect();
+    let pages = StateSet::all(n);
+    if rows.iter().any(|row| !row.is_subset(&pages)) {
+        return Err(Refusal::GRID);
     }
-    Ok(Relation::from_fn(n, bit))
+    Ok(Relation::from_rows(rows))
 }
 
 /// Reads a start: a grid that must also be reflexive and transitive.
@@ -39,19 +41,16 @@ pub fn read_start(words: &[u64], n: usize) -> Result<Preorder, Refusal> {
 pub fn write(relation: &Relation) -> Vec<u64> {
     let n = relation.states();
     let w = words_per_row(n);
-    let mut words = vec![0; n * w];
-    for (p, q) in relation.pairs() {
-        words[p * w + q / 64] |= 1 << (q % 64);
+    let mut words = Vec::with_capacity(length(n));
+    for p in 0..n {
+        words.extend_from_slice(&relation.row(p).words()[..w]);
     }
     words
 }
 
 /// The end start of a flow: (p, q) unless p has the end mark and q has not.
 pub fn end_start_of(lts: &Lts) -> Preorder {
-    let relation = Relation::from_fn(lts.states(), |p, q| {
-        !lts.has_end_mark(p) || lts.has_end_mark(q)
-    });
-    Preorder::new(relation).expect("the end start is a preorder")
+    Preorder::of_mark(lts.states(), |p| lts.has_end_mark(p))
 }
 
 /// Is the relation a simulation over the flow?

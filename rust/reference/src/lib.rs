@@ -32,6 +32,7 @@ pub mod random;
 pub mod refusal;
 pub mod relation;
 pub mod report;
+pub mod shapes;
 pub mod sheet;
 pub mod state_set;
 pub mod turns;

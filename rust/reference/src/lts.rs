@@ -28,6 +28,8 @@ pub struct Lts {
     actions: usize,
     end_marks: Vec<bool>,
     transitions: Vec<Transition>,
+    /// Per state, where its transitions begin; and the end of the last.
+    rows: Vec<usize>,
 }
 
 impl Lts {
@@ -41,10 +43,18 @@ impl Lts {
         }
         transitions.sort();
         transitions.dedup();
+        let mut rows = vec![0; n + 1];
+        for t in &transitions {
+            rows[t.source + 1] += 1;
+        }
+        for p in 0..n {
+            rows[p + 1] += rows[p];
+        }
         Lts {
             actions,
             end_marks,
             transitions,
+            rows,
         }
     }
 
@@ -88,20 +98,15 @@ impl Lts {
 
     /// The transitions that leave `p`, by action, then target.
     pub fn moves_of(&self, p: State) -> &[Transition] {
-        let from = self.transitions.partition_point(|t| t.source < p);
-        let to = self.transitions.partition_point(|t| t.source <= p);
-        &self.transitions[from..to]
+        &self.transitions[self.rows[p]..self.rows[p + 1]]
     }
 
     /// The transitions that leave `q` with action `a`, by target.
     pub fn replies(&self, q: State, a: Action) -> &[Transition] {
-        let from = self
-            .transitions
-            .partition_point(|t| (t.source, t.action) < (q, a));
-        let to = self
-            .transitions
-            .partition_point(|t| (t.source, t.action) <= (q, a));
-        &self.transitions[from..to]
+        let moves = self.moves_of(q);
+        let from = moves.partition_point(|t| t.action < a);
+        let to = moves.partition_point(|t| t.action <= a);
+        &moves[from..to]
     }
 
     /// Is this a transition of the system?

@@ -103,8 +103,9 @@ impl Relation {
 
     /// Is (p, r) a pair whenever (p, q) and (q, r) are?
     pub fn is_transitive(&self) -> bool {
-        self.pairs()
-            .all(|(p, q)| self.row(q).is_subset(self.row(p)))
+        self.rows
+            .iter()
+            .all(|row| row.iter().all(|q| self.row(q).is_subset(row)))
     }
 
     /// The block of `p`: all r with (p, r) and (r, p) in the relation.
@@ -117,7 +118,10 @@ impl Relation {
 
     /// The representative of the block of `p`, which is its lowest state.
     pub fn representative(&self, p: State) -> State {
-        self.block(p).first().expect("a reflexive relation")
+        self.row(p)
+            .iter()
+            .find(|&r| self.contains(r, p))
+            .expect("a reflexive relation")
     }
 
     /// The blocks, in the order of their representatives.
@@ -152,6 +156,16 @@ impl Preorder {
             return Err(Refusal::NOT_TRANSITIVE);
         }
         Ok(Preorder { relation })
+    }
+
+    /// The preorder that holds (p, q) unless p has some mark and q has not.
+    pub fn of_mark(n: usize, has: impl Fn(State) -> bool) -> Preorder {
+        let all = StateSet::all(n);
+        let marked = (0..n).filter(|&p| has(p)).collect();
+        let rows = (0..n).map(|p| if has(p) { marked } else { all }).collect();
+        Preorder {
+            relation: Relation::from_rows(rows),
+        }
     }
 
     /// The smallest preorder that holds the given relation.

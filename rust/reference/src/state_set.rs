@@ -25,6 +25,19 @@ impl StateSet {
         (0..n).collect()
     }
 
+    /// The set whose first words are these; state s is bit s mod 64 of word
+    /// s / 64.
+    pub fn from_words(first: &[u64]) -> StateSet {
+        let mut set = StateSet::empty();
+        set.words[..first.len()].copy_from_slice(first);
+        set
+    }
+
+    /// The words of the set.
+    pub fn words(&self) -> &[u64] {
+        &self.words
+    }
+
     /// Is `s` a member?
     #[inline]
     pub fn contains(&self, s: State) -> bool {

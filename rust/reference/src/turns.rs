@@ -1,15 +1,19 @@
 //! The turn rule of document 01, taken literally.
 
 use crate::grid;
-use crate::lts::{Action, Lts, State};
+use crate::lts::{Action, Lts, State, Transition};
 use crate::refusal::Refusal;
 use crate::relation::{Preorder, Relation};
 use crate::sheet;
 use crate::state_set::StateSet;
 
+/// A set of actions. No action is as large as 256, so a set of states serves.
+type ActionSet = StateSet;
+
 /// The two relations that the turns work on.
-pub struct Turns<'a> {
-    lts: &'a Lts,
+pub struct Turns {
+    /// The transitions of each action; none has action 0.
+    moves: Vec<Vec<Transition>>,
     /// K, the pairs still kept.
     k: Relation,
     /// V, what each state's block was last compared with.
@@ -25,16 +29,21 @@ pub struct Outcome {
     pub kept: Relation,
 }
 
-impl<'a> Turns<'a> {
+impl Turns {
     /// The beginning: V is all pairs, K is the start without each (p, q)
     /// where p has an action that q has not.
-    pub fn begin(lts: &'a Lts, start: &Preorder) -> Turns<'a> {
+    pub fn begin(lts: &Lts, start: &Preorder) -> Turns {
         let n = lts.states();
-        let lacks =
-            |p: State, q: State| (1..=lts.actions()).any(|a| lts.can(p, a) && !lts.can(q, a));
+        let can = |p: State| lts.moves_of(p).iter().map(|step| step.action).collect();
+        let actions: Vec<ActionSet> = (0..n).map(can).collect();
+        let lacks = |p: State, q: State| !actions[p].is_subset(&actions[q]);
         let k = Relation::from_fn(n, |p, q| start.contains(p, q) && !lacks(p, q));
+        let mut moves = vec![Vec::new(); lts.actions() + 1];
+        for &t in lts.transitions() {
+            moves[t.action].push(t);
+        }
         Turns {
-            lts,
+            moves,
             k,
             v: Relation::full(n),
         }
@@ -74,16 +83,25 @@ impl<'a> Turns<'a> {
         for p in b.iter() {
             self.v.set_row(p, y);
         }
-        for a in 1..=self.lts.actions() {
+        for a in 1..self.moves.len() {
             self.act(a, &b, &y, &n);
         }
         true
     }
 
+    /// The states with an `a`-transition into `targets`.
+    fn sources(&self, a: Action, targets: &StateSet) -> StateSet {
+        self.moves[a]
+            .iter()
+            .filter(|t| targets.contains(t.target))
+            .map(|t| t.source)
+            .collect()
+    }
+
     /// Steps 1, 2 and 3 of a turn for one action.
     fn act(&mut self, a: Action, b: &StateSet, y: &StateSet, n: &StateSet) {
         // Step 1: an a-move into N and none into Y.
-        let rem = self.lts.sources(a, n).without(&self.lts.sources(a, y));
+        let rem = self.sources(a, n).without(&self.sources(a, y));
         if rem.is_empty() {
             return; // steps 2 and 3 drop nothing
         }
@@ -96,7 +114,7 @@ impl<'a> Turns<'a> {
             }
         }
         // Step 3: with blocks taken anew, whole products C × D.
-        let into_b = self.lts.sources(a, b);
+        let into_b = self.sources(a, b);
         let blocks = self.k.blocks();
         for c in blocks.iter().filter(|c| c.meets(&into_b)) {
             for d in blocks.iter().filter(|d| d.is_subset(&rem)) {

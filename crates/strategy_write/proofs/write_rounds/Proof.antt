@@ -10,8 +10,10 @@ use Rattle.lts.specs.Rounds.{round}
 use Rattle.lts.specs.declared.Entry.{Entry}
 use Rattle.lts.specs.Strategy.{numbersOf, entriesIn}
 use Rattle.lts.specs.Table.{tableLts}
-use Rattle.relation.specs.Matrix.{relationOf, matrixOf}
+use Rattle.relation.specs.Matrix.{inRow, relationOf, matrixOf}
 use Rattle.relation.proofs.Matrices.{matrix-relation, formed-of, length-matrixOf}
+use Rattle.rounds.specs.Rounds.{Settled}
+use Rattle.rounds.proofs.Settling.{settled-none, settled-next}
 use Rattle.rounds.proofs.Refutations.{round-zero, round-next}
 use Rattle.strategy_write.specs.Writing.{previous}
 use Rattle.strategy_write.proofs.Writes.{written, written-none, written-more, at-none, at-more, room-next, same-size}
@@ -21,15 +23,15 @@ use Rattle.strategy_write.proofs.write_rounds.Statement.{statement}
 use Rattle.strategy_write.proofs.write_rounds.Tie as tie
 
 abbrev Inv-loop : tie.InvT-loop
-Inv-loop n m k sources actions targets offsets current₀ next₀ rounds numbers₀ at₀ i₀ current next numbers at i = (i ≤ rounds) × (current ≡ matrixOf n (previous (tableLts n m k sources actions targets) (relationOf n next₀) i)) × (next ≡ matrixOf n (round (tableLts n m k sources actions targets) (relationOf n next₀) i)) × (at ≡ 0 + length (concatBelow i (entriesIn (tableLts n m k sources actions targets) (relationOf n next₀)))) × (numbers ≡ written numbers₀ 0 (entriesIn (tableLts n m k sources actions targets) (relationOf n next₀)) i)
+Inv-loop n m k sources actions targets offsets current₀ next₀ rounds numbers₀ settled₀ at₀ i₀ current next numbers settled at i = (i ≤ rounds) × (current ≡ matrixOf n (previous (tableLts n m k sources actions targets) (relationOf n next₀) i)) × (next ≡ matrixOf n (round (tableLts n m k sources actions targets) (relationOf n next₀) i)) × (at ≡ 0 + length (concatBelow i (entriesIn (tableLts n m k sources actions targets) (relationOf n next₀)))) × (numbers ≡ written numbers₀ 0 (entriesIn (tableLts n m k sources actions targets) (relationOf n next₀)) i) × Settled n m k sources actions targets (relationOf n next) (inRow settled)
 
 abbrev μ-loop : tie.MeasureT-loop
-μ-loop n m k sources actions targets offsets current₀ next₀ rounds numbers₀ at₀ i₀ current next numbers at i = rounds - i
+μ-loop n m k sources actions targets offsets current₀ next₀ rounds numbers₀ settled₀ at₀ i₀ current next numbers settled at i = rounds - i
 
 loop-holds : tie.Need-loop-holds Inv-loop μ-loop
 loop-holds c = let s = c .before .before .before in
     let a = s .args in
-    (search needs, previous-first (a .n) (a .m) (a .k) (now (a .sources)) (now (a .actions)) (now (a .targets)) (relationOf (a .n) (now (a .next))) (s .pre .2), round-zero (a .n) (a .m) (a .k) (now (a .sources)) (now (a .actions)) (now (a .targets)) (s .pre .0 .table) (relationOf (a .n) (now (a .next))) (matrix-relation _ _ (s .pre .1) (λ j. c .before .slice-known2 .given j .fits)), at-none (now (a .numbers)) 0 (entriesIn (tableLts (a .n) (a .m) (a .k) (now (a .sources)) (now (a .actions)) (now (a .targets))) (relationOf (a .n) (now (a .next)))), written-none (now (a .numbers)) 0 (entriesIn (tableLts (a .n) (a .m) (a .k) (now (a .sources)) (now (a .actions)) (now (a .targets))) (relationOf (a .n) (now (a .next)))))
+    (search needs, previous-first (a .n) (a .m) (a .k) (now (a .sources)) (now (a .actions)) (now (a .targets)) (relationOf (a .n) (now (a .next))) (s .pre .2), round-zero (a .n) (a .m) (a .k) (now (a .sources)) (now (a .actions)) (now (a .targets)) (s .pre .0 .table) (relationOf (a .n) (now (a .next))) (matrix-relation _ _ (s .pre .1) (λ j. c .before .slice-known2 .given j .fits)), at-none (now (a .numbers)) 0 (entriesIn (tableLts (a .n) (a .m) (a .k) (now (a .sources)) (now (a .actions)) (now (a .targets))) (relationOf (a .n) (now (a .next)))), written-none (now (a .numbers)) 0 (entriesIn (tableLts (a .n) (a .m) (a .k) (now (a .sources)) (now (a .actions)) (now (a .targets))) (relationOf (a .n) (now (a .next)))), settled-none (a .n) (a .m) (a .k) (now (a .sources)) (now (a .actions)) (now (a .targets)) (s .pre .0 .table) (relationOf (a .n) (now (a .next))))
 
 write-round-requires : tie.Need-write-round-requires Inv-loop μ-loop
 write-round-requires c κs = let s = c .before .before .before .before .before .before .before .before in
@@ -47,28 +49,35 @@ copy-matrix-requires : tie.Need-copy-matrix-requires Inv-loop μ-loop
 copy-matrix-requires c κs = ap length (c .before .before .before .before .before .before .before .before .before .loop .inv .2) ∙ length-matrixOf _ _ ∙ sym (length-matrixOf _ _) ∙ sym (ap length (c .before .before .before .before .before .before .before .before .before .loop .inv .1))
 
 next-round-requires : tie.Need-next-round-requires Inv-loop μ-loop
-next-round-requires c κs = let s = c .before .before .before .before .before .before .before .before .before .before .before .before .before .before .before .before .before .before in
+next-round-requires c κs = let s = c .before .before .before .before .before .before .before .before .before .before .before .before .before .before .before .before .before .before .before in
     let a = s .args in
-    let l = c .before .before .before .before .before .before .before .before .before .before .before .before .before .before .loop .inv in
-    (s .pre .0 .table, formed-of _ _ (c .before .before .before .before .copy-matrix .ensures ∙ l .2), ap length (c .before .before .before .before .copy-matrix .ensures))
+    let l = c .before .before .before .before .before .before .before .before .before .before .before .before .before .before .before .loop .inv in
+    let copy = c .before .before .before .before .before .copy-matrix .ensures in
+    let settled = subst⁻¹ (λ (g : List ℕ). Settled (a .n) (a .m) (a .k) (now (a .sources)) (now (a .actions)) (now (a .targets)) (relationOf (a .n) g) (inRow (c .before .before .before .before .before .before .before .before .before .before .before .before .before .before .before .loop .settled))) copy (l .5) in
+    (s .pre .0 .table, formed-of _ _ (copy ∙ l .2), ap length copy, settled)
+
+same-rows-requires : tie.Need-same-rows-requires Inv-loop μ-loop
+same-rows-requires c κs =
+    (formed-of _ _ (c .before .before .before .before .before .before .before .before .before .before .copy-matrix .ensures ∙ c .before .before .before .before .before .before .before .before .before .before .before .before .before .before .before .before .before .before .before .before .loop .inv .2), formed-of _ _ (c .before .before .before .before .next-round .ensures), c .before .before .before .before .before .before .before .before .before .before .before .before .before .before .before .before .before .before .before .before .before .before .before .before .pre .0 .table .states)
 
 add-i : tie.Need-add-i Inv-loop μ-loop
-add-i c = search needs
+add-i c = omega (arith, c .before .before .before .before .before .before .before .before .before .before .before .before .before .before .before .before .before .before .before .before .loop-test .taken, c .before .before .before .before .before .before .before .before .before .before .before .before .before .before .before .before .before .before .before .before .before .before .before .before .before .fits)
 
 loop-less : tie.Need-loop-less Inv-loop μ-loop
 loop-less c = search needs
 
 loop-again : tie.Need-loop-again Inv-loop μ-loop
-loop-again c = let s = c .before .before .before .before .before .before .before .before .before .before .before .before .before .before .before .before .before .before .before .before .before in
+loop-again c = let s = c .before .before .before .before .before .before .before .before .before .before .before .before .before .before .before .before .before .before .before .before .before .before .before .before .before in
     let a = s .args in
-    let l = c .before .before .before .before .before .before .before .before .before .before .before .before .before .before .before .before .before .loop .inv in
-    let current = c .before .before .before .before .before .before .before .copy-matrix .ensures ∙ l .2 in
+    let l = c .before .before .before .before .before .before .before .before .before .before .before .before .before .before .before .before .before .before .before .before .before .loop .inv in
+    let current = c .before .before .before .before .before .before .before .before .before .before .before .copy-matrix .ensures ∙ l .2 in
     let entries = round-entries (a .n) (a .m) (a .k) (now (a .sources)) (now (a .actions)) (now (a .targets)) (relationOf (a .n) (now (a .next))) _ (l .1) (l .2) in (
-      omega (arith, c .before .before .before .before .before .before .before .before .before .before .before .before .before .before .before .before .loop-test .taken),
+      omega (arith, c .before .before .before .before .before .before .before .before .before .before .before .before .before .before .before .before .before .before .before .before .loop-test .taken),
       previous-next (a .n) (a .m) (a .k) (now (a .sources)) (now (a .actions)) (now (a .targets)) (relationOf (a .n) (now (a .next))) _ current,
-      round-next (a .n) (a .m) (a .k) (now (a .sources)) (now (a .actions)) (now (a .targets)) (s .pre .0 .table) (relationOf (a .n) (now (a .next))) _ current (c .before .before .next-round .ensures),
-      at-more (now (a .numbers)) 0 (entriesIn (tableLts (a .n) (a .m) (a .k) (now (a .sources)) (now (a .actions)) (now (a .targets))) (relationOf (a .n) (now (a .next)))) _ (l .3) (c .before .before .before .before .before .before .before .before .before .before .before .before .write-round .ensures .0 ∙ ap (λ (x : List Entry). c .before .before .before .before .before .before .before .before .before .before .before .before .before .before .before .before .before .loop .at + length x) entries),
-      written-more (now (a .numbers)) 0 (entriesIn (tableLts (a .n) (a .m) (a .k) (now (a .sources)) (now (a .actions)) (now (a .targets))) (relationOf (a .n) (now (a .next)))) _ (l .4) (l .3) (c .before .before .before .before .before .before .before .before .before .before .before .before .write-round .ensures .1 ∙ ap (λ (x : List Entry). sets (c .before .before .before .before .before .before .before .before .before .before .before .before .before .before .before .before .before .loop .numbers) (4 * c .before .before .before .before .before .before .before .before .before .before .before .before .before .before .before .before .before .loop .at) (numbersOf x)) entries),
+      round-next (a .n) (a .m) (a .k) (now (a .sources)) (now (a .actions)) (now (a .targets)) (s .pre .0 .table) (relationOf (a .n) (now (a .next))) _ current (c .before .before .before .before .before .next-round .ensures),
+      at-more (now (a .numbers)) 0 (entriesIn (tableLts (a .n) (a .m) (a .k) (now (a .sources)) (now (a .actions)) (now (a .targets))) (relationOf (a .n) (now (a .next)))) _ (l .3) (c .before .before .before .before .before .before .before .before .before .before .before .before .before .before .before .before .write-round .ensures .0 ∙ ap (λ (x : List Entry). c .before .before .before .before .before .before .before .before .before .before .before .before .before .before .before .before .before .before .before .before .before .loop .at + length x) entries),
+      written-more (now (a .numbers)) 0 (entriesIn (tableLts (a .n) (a .m) (a .k) (now (a .sources)) (now (a .actions)) (now (a .targets))) (relationOf (a .n) (now (a .next)))) _ (l .4) (l .3) (c .before .before .before .before .before .before .before .before .before .before .before .before .before .before .before .before .write-round .ensures .1 ∙ ap (λ (x : List Entry). sets (c .before .before .before .before .before .before .before .before .before .before .before .before .before .before .before .before .before .before .before .before .before .loop .numbers) (4 * c .before .before .before .before .before .before .before .before .before .before .before .before .before .before .before .before .before .before .before .before .before .loop .at) (numbersOf x)) entries),
+      settled-next (a .n) (a .m) (a .k) (now (a .sources)) (now (a .actions)) (now (a .targets)) (s .pre .0 .table) _ (c .before .before .before .before .before .next-round .ensures) (c .same-rows .ensures),
     )
 
 same-length : tie.Need-same-length Inv-loop μ-loop
@@ -110,6 +119,7 @@ write-rounds-spec =
     write-round-requires
     copy-matrix-requires
     next-round-requires
+    same-rows-requires
     add-i
     loop-less
     loop-again

@@ -1,0 +1,8 @@
+pub mod Reborrow
+pub mod SharedReborrow
+pub mod LocalArray
+pub mod Steps
+pub mod Element
+pub mod Copies
+pub mod Writings
+pub mod Turns

@@ -1,0 +1,43 @@
+-- What the loop that takes entries one by one knows before each turn. Assumes nothing.
+use Prim.Native.Nat.{ℕ, _+_, _≤_, _<_, zero-le}
+use mathlib.Core.Path.{_≡_, sym, ap, subst, _∙_}
+use native.Mathlib.Numerals.{add-one, add-one-le}
+use mathlib.Core.List.{List, []}
+use lib.ListN.{length, getD, take}
+use lib.Seq.{take-suc, take-length, length-take-le}
+use Rattle.lts.specs.declared.Entry.{Entry}
+use Rattle.strategy_parts.specs.Parts.{Taken, TakesEntry}
+use Rattle.strategy_parts.proofs.Answers.{taken-none}
+use Rattle.entries.specs.Entries.{blank}
+use Rattle.entries.proofs.LocalArray.{repeated, length-repeated}
+
+-- the first `at` entries are taken
+pub record Turn (s preorder : List ℕ) (es : List Entry) : Type 0 where
+  pub at : ℕ
+  pub within : at ≤ length es
+  pub work : List ℕ
+  pub long : length work ≡ 69636
+  pub known : Taken s preorder (take at es) work
+
+pub none-taken : (s preorder : List ℕ) (es : List Entry) → Taken s preorder (take 0 es) (repeated {X = ℕ} 69636 0)
+unfolding repeated
+none-taken s preorder es = taken-none s preorder 69636
+
+module _ (s preorder : List ℕ) (es : List Entry) where
+  abbrev pub first-turn : Turn s preorder es
+  first-turn = record { at = 0; within = zero-le; work = repeated {X = ℕ} 69636 0; long = length-repeated {X = ℕ} 69636 0; known = none-taken s preorder es }
+
+  abbrev pub next-turn : (t : Turn s preorder es) → t .at < length es → (work : List ℕ) → length work ≡ length (t .work) → TakesEntry s preorder (t .work) (t .at) (getD es (t .at) blank) work → Turn s preorder es
+  next-turn t less work long takes = record {
+    at = t .at + 1;
+    within = add-one-le less;
+    work = work;
+    long = long ∙ t .long;
+    known =
+        subst (λ (l : List Entry). Taken s preorder l work) (sym (ap (λ (k : ℕ). take k es) (add-one (t .at)) ∙ take-suc es (t .at) blank less))
+        (takes (take (t .at) es) (length-take-le (t .at) es (t .within)) (t .known));
+  }
+
+  -- at the end all are taken
+  pub last-turn : (t : Turn s preorder es) → t .at ≡ length es → Taken s preorder es (t .work)
+  last-turn t e = subst (λ (l : List Entry). Taken s preorder l (t .work)) (ap (λ (k : ℕ). take k es) e ∙ take-length es) (t .known)

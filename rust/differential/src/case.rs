@@ -1,0 +1,112 @@
+//! One call with its lent buffers, and what it comes to.
+
+use std::fmt;
+
+/// The exported calls.
+#[derive(Clone, Copy, PartialEq, Eq, Debug)]
+pub enum Call {
+    Coarsest,
+    Compare,
+    Normalise,
+    EndStart,
+    TestSimulation,
+    CheckPlan,
+    WritePlan,
+    HandPlay,
+}
+
+impl Call {
+    /// All calls.
+    pub const ALL: [Call; 8] = [
+        Call::Coarsest,
+        Call::Compare,
+        Call::Normalise,
+        Call::EndStart,
+        Call::TestSimulation,
+        Call::CheckPlan,
+        Call::WritePlan,
+        Call::HandPlay,
+    ];
+
+    /// Document 01's name, with _ for a blank.
+    pub fn name(self) -> &'static str {
+        match self {
+            Call::Coarsest => "coarsest",
+            Call::Compare => "compare",
+            Call::Normalise => "normalise",
+            Call::EndStart => "end_start",
+            Call::TestSimulation => "test_simulation",
+            Call::CheckPlan => "check_plan",
+            Call::WritePlan => "write_plan",
+            Call::HandPlay => "hand_play",
+        }
+    }
+
+    /// The refusals that the call can give.
+    pub fn refusals(self) -> &'static [u8] {
+        match self {
+            Call::Coarsest => &[1, 2, 3, 4, 5, 6, 8, 9, 10, 15],
+            Call::Compare => &[1, 2, 3, 4, 5, 6, 7],
+            Call::Normalise | Call::EndStart => &[1, 2, 3, 4, 5, 6, 15],
+            Call::TestSimulation => &[1, 2, 3, 4, 5, 6, 8, 9, 10],
+            Call::CheckPlan => &[1, 2, 3, 4, 5, 6, 8, 9, 10, 14],
+            Call::WritePlan => &[1, 2, 3, 4, 5, 6, 8, 9, 10, 11, 13, 15],
+            Call::HandPlay => &[1, 2, 3, 4, 5, 6, 8, 9, 10, 11, 12],
+        }
+    }
+
+    /// Is the answer's first value a yes or no?
+    pub fn says_yes_or_no(self) -> bool {
+        matches!(self, Call::Compare | Call::TestSimulation | Call::HandPlay)
+    }
+}
+
+/// One call with everything that it is given.
+#[derive(Clone, PartialEq, Eq)]
+pub struct Case {
+    pub call: Call,
+    /// The lent byte buffers, in the call's order.
+    pub bytes: Vec<Vec<u8>>,
+    /// p, q and rounds, as far as the call takes them.
+    pub numbers: Vec<u64>,
+    /// The plan's numbers, where the call takes a plan.
+    pub plan: Vec<u16>,
+}
+
+/// What a call comes to: the answer's values in order, or the refusal's
+/// number; and every lent buffer afterwards, those only read included.
+#[derive(Clone, PartialEq, Eq)]
+pub struct Outcome {
+    pub answer: Result<Vec<u64>, u8>,
+    pub bytes: Vec<Vec<u8>>,
+    pub plan: Vec<u16>,
+}
+
+impl fmt::Debug for Case {
+    fn fmt(&self, f: &mut fmt::Formatter<'_>) -> fmt::Result {
+        writeln!(f, "call {} numbers {:?}", self.call.name(), self.numbers)?;
+        write_buffers(f, &self.bytes, &self.plan)
+    }
+}
+
+impl fmt::Debug for Outcome {
+    fn fmt(&self, f: &mut fmt::Formatter<'_>) -> fmt::Result {
+        match &self.answer {
+            Ok(values) => writeln!(f, "answer {values:?}")?,
+            Err(number) => writeln!(f, "refused {number}")?,
+        }
+        write_buffers(f, &self.bytes, &self.plan)
+    }
+}
+
+/// The buffers, the bytes in hexadecimal.
+fn write_buffers(f: &mut fmt::Formatter<'_>, bytes: &[Vec<u8>], plan: &[u16]) -> fmt::Result {
+    for (at, buffer) in bytes.iter().enumerate() {
+        write!(f, "buffer {at}, {} bytes:", buffer.len())?;
+        for byte in buffer {
+            write!(f, " {byte:02x}")?;
+        }
+        writeln!(f)?;
+    }
+    writeln!(f, "plan, {} numbers: {plan:?}", plan.len())
+}

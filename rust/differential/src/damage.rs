@@ -1,0 +1,103 @@
+//! Sheets and lengths that break a rule.
+
+use reference::lts::Lts;
+use reference::prng::Prng;
+use reference::random;
+use reference::sheet::{length, HEADER, PAGE_RECORD};
+
+/// A sheet of the flow: mostly readable, sometimes damaged.
+pub fn sheet(rng: &mut Prng, lts: &Lts, damaged: usize) -> Vec<u8> {
+    let mut sheet = if rng.chance(30) {
+        reference::sheet::write(lts)
+    } else {
+        random::shuffled_sheet(rng, lts)
+    };
+    if rng.chance(damaged) {
+        damage(rng, lts, &mut sheet);
+        if rng.chance(20) {
+            damage(rng, lts, &mut sheet);
+        }
+    }
+    sheet
+}
+
+/// Breaks some rule, most of the time.
+fn damage(rng: &mut Prng, lts: &Lts, sheet: &mut Vec<u8>) {
+    let (n, k) = (lts.states(), lts.transitions().len());
+    let page = HEADER + PAGE_RECORD * rng.below(n);
+    let record = length(n, rng.below(k.max(1)));
+    match rng.below(9) {
+        0 => {
+            let wrong = wrong_length(rng, sheet.len(), 1);
+            sheet.resize_with(wrong, || rng.bits() as u8);
+        }
+        1 => change_count(rng, sheet),
+        2 if !sheet.is_empty() => {
+            let at = rng.below(sheet.len());
+            sheet[at] = rng.bits() as u8;
+        }
+        3 => change_number(rng, sheet, page, 2),
+        4 => change_number(rng, sheet, page + 2, k + 1),
+        5 => change_number(rng, sheet, record, lts.actions() + 1),
+        6 => change_number(rng, sheet, record + 2, n),
+        7 => change_number(rng, sheet, record + 4, k + 1),
+        _ if k > 1 => {
+            // The action and target of one record, in another.
+            let from = length(n, rng.below(k));
+            if from.max(record) + 4 <= sheet.len() {
+                sheet.copy_within(from..from + 4, record);
+            }
+        }
+        _ => sheet.push(0),
+    }
+}
+
+/// Puts a 16-bit number into the sheet, one around the edge or any.
+fn change_number(rng: &mut Prng, sheet: &mut [u8], at: usize, edge: usize) {
+    let number = match rng.below(4) {
+        0 => edge,
+        1 => rng.below(edge + 1),
+        2 => edge.saturating_sub(1),
+        _ => rng.bits() as usize,
+    };
+    if let Some(place) = sheet.get_mut(at..at + 2) {
+        place.copy_from_slice(&(number as u16).to_le_bytes());
+    }
+}
+
+/// Changes a count of the header, and often the length with it.
+fn change_count(rng: &mut Prng, sheet: &mut Vec<u8>) {
+    const COUNTS: [&[u16]; 3] = [
+        &[0, 1, 256, 257, 258, 512],
+        &[0, 64, 65, 256],
+        &[0, 1, 1024, 1025, 1026, u16::MAX],
+    ];
+    let which = rng.below(3);
+    let count = COUNTS[which][rng.below(COUNTS[which].len())];
+    if let Some(place) = sheet.get_mut(2 * which..2 * which + 2) {
+        place.copy_from_slice(&count.to_le_bytes());
+        let number = |at: usize| usize::from(sheet[at]) + 256 * usize::from(sheet[at + 1]);
+        if sheet.len() >= HEADER && rng.chance(60) {
+            let fitting = length(number(0), number(4));
+            sheet.resize(fitting.min(10_000), 0);
+        }
+    }
+}
+
+/// A length near the right one, or far from it; rarely the right one.
+pub fn wrong_length(rng: &mut Prng, right: usize, unit: usize) -> usize {
+    match rng.below(12) {
+        0 => 0,
+        1 => 1,
+        2 => right.saturating_sub(1),
+        3 => right + 1,
+        4 => right.saturating_sub(unit),
+        5 => right + unit,
+        6 => right + unit - 1,
+        7 => 2 * right,
+        8 => right / 2,
+        9 => rng.below(right + 1),
+        10 => HEADER - 1,
+        _ => rng.below(9000),
+    }
+}

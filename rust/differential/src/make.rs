@@ -1,0 +1,296 @@
+//! A case from its seed.
+
+use crate::case::{Call, Case};
+use crate::damage::{sheet, wrong_length};
+use crate::flows::{self, Sizes};
+use crate::grids;
+use crate::sides::carried;
+use reference::lts::Lts;
+use reference::plans::{Rounds, ENTRY_NUMBERS};
+use reference::prng::Prng;
+use reference::relation::{Preorder, Relation};
+use reference::sheet::length;
+use reference::{fixpoint, grid, random};
+
+/// How many in a hundred sheets, starts and lengths are damaged.
+const DAMAGED: usize = 15;
+const BROKEN: usize = 12;
+const MISSIZED: usize = 12;
+
+/// Where the independent program takes long on large flows, few are large.
+const FEW: Sizes = Sizes {
+    large: 3,
+    edges: 60,
+};
+const MANY: Sizes = Sizes {
+    large: 100,
+    edges: 300,
+};
+
+/// The case of a call and a seed.
+pub fn case(call: Call, seed: u64) -> Case {
+    let rng = &mut Prng::new(seed ^ (call as u64) << 56);
+    let mut case = Case {
+        call,
+        bytes: Vec::new(),
+        numbers: Vec::new(),
+        plan: Vec::new(),
+    };
+    match call {
+        Call::Coarsest => coarsest(rng, &mut case),
+        Call::Compare => compare(rng, &mut case),
+        Call::Normalise => {
+            let lts = flow_and_sheet(rng, MANY, &mut case);
+            let right = length(lts.states(), lts.transitions().len());
+            case.bytes.push(result_buffer(rng, right, 1));
+        }
+        Call::EndStart => {
+            let lts = flow_and_sheet(rng, MANY, &mut case);
+            let right = 8 * grid::length(lts.states());
+            case.bytes.push(result_buffer(rng, right, 8));
+        }
+        Call::TestSimulation => {
+            let (lts, start) = flow_and_start(rng, MANY, &mut case);
+            let claim = claim(rng, &lts, &start);
+            case.bytes.push(claim);
+        }
+        Call::CheckPlan => {
+            let (lts, start) = flow_and_start(rng, FEW, &mut case);
+            case.plan = plan_to_check(rng, &lts, &start);
+        }
+        Call::WritePlan => {
+            let (lts, start) = flow_and_start(rng, FEW, &mut case);
+            let (p, q) = pair(rng, &lts, &start);
+            case.plan = plan_buffer(rng, &lts, &start, p, q);
+            case.numbers = vec![
+                argument(rng, p, lts.states()),
+                argument(rng, q, lts.states()),
+            ];
+        }
+        Call::HandPlay => {
+            let (lts, start) = flow_and_start(rng, MANY, &mut case);
+            let (p, q) = pair(rng, &lts, &start);
+            let rounds = rng.below(7);
+            case.numbers = vec![
+                argument(rng, p, lts.states()),
+                argument(rng, q, lts.states()),
+                argument(rng, rounds, 7),
+            ];
+        }
+    }
+    case
+}
+
+/// A flow; its sheet is the case's first buffer.
+fn flow_and_sheet(rng: &mut Prng, sizes: Sizes, case: &mut Case) -> Lts {
+    let lts = flows::flow(rng, sizes);
+    case.bytes.push(sheet(rng, &lts, DAMAGED));
+    lts
+}
+
+/// A flow and a start; sheet and grid are the case's first buffers.
+fn flow_and_start(rng: &mut Prng, sizes: Sizes, case: &mut Case) -> (Lts, Preorder) {
+    let lts = flow_and_sheet(rng, sizes, case);
+    let start = grids::preorder(rng, &lts);
+    case.bytes.push(grids::start(rng, &start, BROKEN));
+    (lts, start)
+}
+
+/// Random bytes.
+fn any_bytes(rng: &mut Prng, count: usize) -> Vec<u8> {
+    (0..count).map(|_| rng.bits() as u8).collect()
+}
+
+/// A buffer for a result, full of random bytes, now and then missized.
+fn result_buffer(rng: &mut Prng, right: usize, unit: usize) -> Vec<u8> {
+    let count = if rng.chance(MISSIZED) {
+        wrong_length(rng, right, unit)
+    } else {
+        right
+    };
+    any_bytes(rng, count)
+}
+
+/// The rest of a coarsest.
+fn coarsest(rng: &mut Prng, case: &mut Case) {
+    let (lts, _) = flow_and_start(rng, FEW, case);
+    let n = lts.states();
+    let mut turns: Vec<u8> = if rng.chance(1) {
+        // More than any run can use.
+        let count = rng.between(130_558, 131_074);
+        any_bytes(rng, count)
+    } else {
+        let most = [0, 3, 4 * n][rng.below(3)];
+        let list = random::schedule(rng, most);
+        list.iter().flat_map(|e| e.to_le_bytes()).collect()
+    };
+    if rng.chance(20) {
+        turns.push(rng.bits() as u8);
+    }
+    case.bytes.push(turns);
+    let grid = result_buffer(rng, 8 * grid::length(n), 8);
+    let names = result_buffer(rng, 2 * n, 2);
+    case.bytes.extend([grid, names]);
+}
+
+/// Two sheets: unlike ones, like ones, and now and then too large together.
+fn compare(rng: &mut Prng, case: &mut Case) {
+    if rng.chance(3) {
+        return compare_at_limits(rng, case);
+    }
+    let first = flow_and_sheet(rng, FEW, case);
+    if rng.chance(50) {
+        flow_and_sheet(rng, FEW, case);
+        return;
+    }
+    // The same flow with one move more or less, either way round.
+    let mut moves = first.transitions().to_vec();
+    if !moves.is_empty() && rng.chance(70) {
+        moves.remove(rng.below(moves.len()));
+    }
+    let second = Lts::new(first.actions(), first.end_marks().to_vec(), moves);
+    case.bytes.push(sheet(rng, &second, DAMAGED));
+    if rng.chance(50) {
+        case.bytes.swap(0, 1);
+    }
+}
+
+/// Pages or moves that together are at the limit or just above.
+fn compare_at_limits(rng: &mut Prng, case: &mut Case) {
+    let above = rng.below(2);
+    let flows = if rng.chance(50) {
+        let n = rng.between(1, 255);
+        [n, 256 + above - n].map(|n| random::lts(rng, n, 1, 3, 0))
+    } else {
+        let k = rng.between(0, 1024);
+        [k, 1024 + above - k].map(|k| random::lts_exact(rng, 24, 2, k, 0))
+    };
+    for lts in &flows {
+        case.bytes.push(sheet(rng, lts, 0));
+    }
+}
+
+/// A claim for test simulation: near the coarsest simulation, or anything.
+fn claim(rng: &mut Prng, lts: &Lts, start: &Preorder) -> Vec<u8> {
+    let n = lts.states();
+    let mut claim = match rng.below(8) {
+        0 => Relation::empty(n),
+        1 => Relation::identity(n),
+        2 => start.relation().clone(),
+        _ => fixpoint::coarsest(lts, start),
+    };
+    if rng.chance(50) {
+        grids::change_pair(rng, &mut claim);
+    }
+    if rng.chance(BROKEN) {
+        return grids::broken_bytes(rng, &claim);
+    }
+    carried(&grid::write(&claim))
+}
+
+/// A pair of pages, most of the time one that falls.
+fn pair(rng: &mut Prng, lts: &Lts, start: &Preorder) -> (usize, usize) {
+    let n = lts.states();
+    let (p, q) = (rng.below(n), rng.below(n));
+    if rng.chance(30) {
+        return (p, q);
+    }
+    let kept = fixpoint::coarsest(lts, start);
+    let dropped: Vec<(usize, usize)> = Relation::full(n)
+        .pairs()
+        .filter(|&(p, q)| !kept.contains(p, q))
+        .collect();
+    if dropped.is_empty() {
+        return (p, q);
+    }
+    dropped[rng.below(dropped.len())]
+}
+
+/// An argument that should be below `bound`: this one, or one outside, also
+/// such that fewer bits of it would be inside.
+fn argument(rng: &mut Prng, inside: usize, bound: usize) -> u64 {
+    if rng.chance(94) {
+        return inside as u64;
+    }
+    let (inside, bound) = (inside as u64, bound as u64);
+    [
+        bound,
+        bound + 1,
+        inside + (1 << 8),
+        inside + (1 << 16),
+        inside + (1 << 32),
+        inside + (1 << 63),
+        u64::from(u16::MAX),
+        u64::MAX,
+    ][rng.below(8)]
+}
+
+/// The numbers of the plan for a pair; none if the pair is kept.
+fn plan_of(lts: &Lts, start: &Preorder, p: usize, q: usize) -> Option<Vec<u16>> {
+    let strategy = Rounds::of(lts, start).strategy(lts, p, q)?;
+    Some(strategy.numbers())
+}
+
+/// Random numbers, small enough to name pages and actions now and then.
+fn any_numbers(rng: &mut Prng, count: usize, most: usize) -> Vec<u16> {
+    (0..count).map(|_| rng.below(most + 1) as u16).collect()
+}
+
+/// A plan to be checked: a written one, one that was changed, or anything.
+fn plan_to_check(rng: &mut Prng, lts: &Lts, start: &Preorder) -> Vec<u16> {
+    let n = lts.states();
+    let (p, q) = pair(rng, lts, start);
+    let mut plan = plan_of(lts, start, p, q).unwrap_or_default();
+    let entries = plan.len() / ENTRY_NUMBERS;
+    match rng.below(10) {
+        0 if entries > 0 => {
+            let at = rng.below(plan.len());
+            plan[at] = any_numbers(rng, 1, n + 1)[0];
+        }
+        1 if entries > 0 => {
+            let at = ENTRY_NUMBERS * rng.below(entries);
+            plan.drain(at..at + ENTRY_NUMBERS);
+        }
+        2 if entries > 1 => {
+            let at = ENTRY_NUMBERS * rng.below(entries - 1);
+            plan[at..at + 2 * ENTRY_NUMBERS].rotate_left(ENTRY_NUMBERS);
+        }
+        3 if entries > 0 => {
+            // An earlier entry once more, at the end.
+            let at = ENTRY_NUMBERS * rng.below(entries);
+            plan.extend_from_within(at..at + ENTRY_NUMBERS);
+        }
+        4 if entries > 0 => {
+            let at = rng.below(plan.len());
+            plan[at] = rng.bits() as u16;
+        }
+        5 => {
+            let count = rng.below(12);
+            plan = any_numbers(rng, count, n);
+        }
+        6 if !lts.transitions().is_empty() => {
+            // A move and any page to answer it.
+            let t = lts.transitions()[rng.below(lts.transitions().len())];
+            let numbers = [t.source, rng.below(n), t.action, t.target];
+            plan.extend(numbers.map(|x| x as u16));
+        }
+        _ => {}
+    }
+    let rest = rng.below(ENTRY_NUMBERS);
+    plan.extend(any_numbers(rng, rest, n));
+    plan
+}
+
+/// A buffer for the plan of a pair, of every length around the right one.
+fn plan_buffer(rng: &mut Prng, lts: &Lts, start: &Preorder, p: usize, q: usize) -> Vec<u16> {
+    let right = match plan_of(lts, start, p, q) {
+        Some(plan) => plan.len(),
+        None => ENTRY_NUMBERS * rng.below(4),
+    };
+    let count = if rng.chance(MISSIZED) {
+        wrong_length(rng, right, ENTRY_NUMBERS)
+    } else {
+        right + rng.below(3 * ENTRY_NUMBERS)
+    };
+    any_numbers(rng, count, usize::from(u16::MAX))
+}

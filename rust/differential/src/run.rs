@@ -1,0 +1,130 @@
+//! Runs many cases and counts what came out.
+
+use std::fmt;
+
+use crate::case::{Call, Case, Outcome};
+use crate::make;
+use crate::memory::{Slot, SLOTS};
+use crate::sides;
+
+/// What the cases of one call came to.
+#[derive(Clone, Copy, PartialEq, Eq, Debug)]
+pub struct Tally {
+    pub call: Call,
+    /// How many were refused, by number.
+    pub refused: [u64; 16],
+    /// How many were answered, and how many of these with a yes.
+    pub answered: u64,
+    pub yes: u64,
+}
+
+impl Tally {
+    /// What should have come out but did not; none if nothing is missing.
+    pub fn missing(&self) -> Vec<String> {
+        let mut missing: Vec<String> = self
+            .call
+            .refusals()
+            .iter()
+            .filter(|&&number| self.refused[usize::from(number)] == 0)
+            .map(|number| format!("refusal {number}"))
+            .collect();
+        let mut want = |what: &str, count: u64| {
+            if count == 0 {
+                missing.push(what.to_string());
+            }
+        };
+        want("an answer", self.answered);
+        if self.call.says_yes_or_no() {
+            want("a yes", self.yes);
+            want("a no", self.answered - self.yes);
+        }
+        missing
+    }
+
+    /// Counts one outcome.
+    fn count(&mut self, outcome: &Outcome) {
+        match &outcome.answer {
+            Err(number) => self.refused[usize::from(*number)] += 1,
+            Ok(values) => {
+                self.answered += 1;
+                if self.call.says_yes_or_no() {
+                    self.yes += values[0];
+                }
+            }
+        }
+    }
+}
+
+impl fmt::Display for Tally {
+    fn fmt(&self, f: &mut fmt::Formatter<'_>) -> fmt::Result {
+        write!(f, "{}: answered {}", self.call.name(), self.answered)?;
+        if self.call.says_yes_or_no() {
+            write!(f, " (yes {})", self.yes)?;
+        }
+        write!(f, "; refused")?;
+        for &number in self.call.refusals() {
+            write!(f, " {number}:{}", self.refused[usize::from(number)])?;
+        }
+        Ok(())
+    }
+}
+
+/// A case on which the two sides differ.
+pub struct Difference {
+    /// The seed of this very case.
+    pub seed: u64,
+    pub case: Case,
+    pub archive: Outcome,
+    pub expected: Outcome,
+}
+
+impl fmt::Display for Difference {
+    fn fmt(&self, f: &mut fmt::Formatter<'_>) -> fmt::Result {
+        let name = self.case.call.name();
+        writeln!(
+            f,
+            "the sides differ; to repeat: differential {name} 1 {}",
+            self.seed
+        )?;
+        writeln!(f, "given: {:?}", self.case)?;
+        writeln!(f, "archive: {:?}", self.archive)?;
+        write!(f, "independent program: {:?}", self.expected)
+    }
+}
+
+/// Runs the cases of the seeds from `seed` on, with the archive's lent
+/// buffers in the slots; stops at the first difference.
+pub fn run<S: Slot>(
+    call: Call,
+    cases: u64,
+    seed: u64,
+    slots: &mut [S; SLOTS],
+) -> Result<Tally, Box<Difference>> {
+    let mut tally = Tally {
+        call,
+        refused: [0; 16],
+        answered: 0,
+        yes: 0,
+    };
+    for number in 0..cases {
+        let seed = seed.wrapping_add(number);
+        let case = make::case(call, seed);
+        let archive = sides::archive(&case, slots);
+        let expected = sides::expected(&case);
+        let refused = expected.answer.is_err();
+        assert!(
+            !refused || (expected.bytes == case.bytes && expected.plan == case.plan),
+            "the independent program wrote and refused"
+        );
+        if archive != expected {
+            return Err(Box::new(Difference {
+                seed,
+                case,
+                archive,
+                expected,
+            }));
+        }
+        tally.count(&archive);
+    }
+    Ok(tally)
+}

@@ -1,0 +1,151 @@
+//! The two sides: the archive's calls and the independent program's.
+
+use crate::case::{Call, Case, Outcome};
+use crate::memory::{Slot, SLOTS};
+use flow::Refusal;
+use reference::{compare, game, grid, plans, sheet, turns};
+
+/// The archive's outcome, with the lent buffers lying in the given slots.
+pub fn archive<S: Slot>(case: &Case, slots: &mut [S; SLOTS]) -> Outcome {
+    let (plan_slot, byte_slots) = slots.split_last_mut().expect("there are slots");
+    let plan = plan_slot.numbers(&case.plan);
+    let mut bytes: Vec<&mut [u8]> = case
+        .bytes
+        .iter()
+        .zip(byte_slots)
+        .map(|(content, slot)| slot.bytes(content))
+        .collect();
+    let answer = archive_answer(case.call, &mut bytes, &case.numbers, plan);
+    Outcome {
+        answer: answer.map_err(Refusal::number),
+        bytes: bytes.iter().map(|buffer| buffer.to_vec()).collect(),
+        plan: plan.to_vec(),
+    }
+}
+
+/// The call itself.
+fn archive_answer(
+    call: Call,
+    bytes: &mut [&mut [u8]],
+    numbers: &[u64],
+    plan: &mut [u16],
+) -> Result<Vec<u64>, Refusal> {
+    match (call, bytes, numbers) {
+        (Call::Coarsest, [sheet, start, turns, grid, names], []) => {
+            let c = flow::coarsest(sheet, start, turns, grid, names)?;
+            Ok(vec![c.turns.into(), c.kept.into(), c.blocks.into()])
+        }
+        (Call::Compare, [first, second], []) => {
+            let compared = flow::compare(first, second)?;
+            Ok(vec![compared.yes.into(), compared.turns.into()])
+        }
+        (Call::Normalise, [sheet, out], []) => flow::normalise(sheet, out).map(|()| Vec::new()),
+        (Call::EndStart, [sheet, grid], []) => flow::end_start(sheet, grid).map(|()| Vec::new()),
+        (Call::TestSimulation, [sheet, start, claim], []) => {
+            flow::test_simulation(sheet, start, claim).map(|yes| vec![yes.into()])
+        }
+        (Call::CheckPlan, [sheet, start], []) => {
+            flow::check_plan(sheet, start, plan).map(|pair| vec![pair.p.into(), pair.q.into()])
+        }
+        (Call::WritePlan, [sheet, start], &[p, q]) => {
+            flow::write_plan(sheet, start, p, q, plan).map(|count| vec![count as u64])
+        }
+        (Call::HandPlay, [sheet, start], &[p, q, rounds]) => {
+            flow::hand_play(sheet, start, p, q, rounds).map(|wins| vec![wins.into()])
+        }
+        _ => panic!("a case with other buffers than its call takes"),
+    }
+}
+
+/// The independent program's outcome.
+pub fn expected(case: &Case) -> Outcome {
+    let mut bytes = case.bytes.clone();
+    let mut plan = case.plan.clone();
+    let answer = expected_answer(case.call, &mut bytes, &case.numbers, &mut plan);
+    Outcome {
+        answer,
+        bytes,
+        plan,
+    }
+}
+
+/// The independent program's call, on the numbers that the bytes carry.
+fn expected_answer(
+    call: Call,
+    bytes: &mut [Vec<u8>],
+    numbers: &[u64],
+    plan: &mut [u16],
+) -> Result<Vec<u64>, u8> {
+    match (call, bytes, numbers) {
+        (Call::Coarsest, [sheet, start, turns, grid, names], []) => {
+            let start = words(start);
+            let list = numbers16(&turns[..turns.len() / 2 * 2]);
+            let (mut kept_words, mut block_names) = (words(grid), numbers16(names));
+            let (turns, kept, blocks) =
+                turns::coarsest(sheet, &start, &list, &mut kept_words, &mut block_names)?;
+            *grid = carried(&kept_words);
+            *names = block_names.iter().flat_map(|x| x.to_le_bytes()).collect();
+            Ok(vec![turns as u64, kept as u64, blocks as u64])
+        }
+        (Call::Compare, [first, second], []) => {
+            let (yes, turns) = compare::compare(first, second)?;
+            Ok(vec![yes.into(), turns as u64])
+        }
+        (Call::Normalise, [sheet, out], []) => sheet::normalise(sheet, out).map(|()| Vec::new()),
+        (Call::EndStart, [sheet, grid], []) => {
+            let mut words = words(grid);
+            grid::end_start(sheet, &mut words)?;
+            *grid = carried(&words);
+            Ok(Vec::new())
+        }
+        (Call::TestSimulation, [sheet, start, claim], []) => {
+            let yes = grid::test_simulation(sheet, &words(start), &words(claim))?;
+            Ok(vec![yes.into()])
+        }
+        (Call::CheckPlan, [sheet, start], []) => {
+            let (p, q) = plans::check_plan(sheet, &words(start), plan)?;
+            Ok(vec![p.into(), q.into()])
+        }
+        (Call::WritePlan, [sheet, start], &[p, q]) => {
+            let count = plans::write_plan(sheet, &words(start), short(p), short(q), plan)?;
+            Ok(vec![count as u64])
+        }
+        (Call::HandPlay, [sheet, start], &[p, q, rounds]) => {
+            let (p, q, rounds) = (short(p), short(q), short(rounds));
+            let wins = game::hand_play(sheet, &words(start), p, q, rounds)?;
+            Ok(vec![wins.into()])
+        }
+        _ => panic!("a case with other buffers than its call takes"),
+    }
+}
+
+/// The numbers that bytes carry. Bytes that are no whole numbers carry none,
+/// and no numbers are refused wherever a grid or names are due.
+fn exactly<T, const SIZE: usize>(bytes: &[u8], read: fn(&[u8; SIZE]) -> T) -> Vec<T> {
+    let (whole, rest) = bytes.as_chunks::<SIZE>();
+    match rest {
+        [] => whole.iter().map(read).collect(),
+        _ => Vec::new(),
+    }
+}
+
+/// The words of a grid.
+fn words(bytes: &[u8]) -> Vec<u64> {
+    exactly(bytes, |word| u64::from_le_bytes(*word))
+}
+
+/// The numbers of a turn list or of names.
+fn numbers16(bytes: &[u8]) -> Vec<u16> {
+    exactly(bytes, |number| u16::from_le_bytes(*number))
+}
+
+/// The bytes that carry words.
+pub fn carried(words: &[u64]) -> Vec<u8> {
+    words.iter().flat_map(|word| word.to_le_bytes()).collect()
+}
+
+/// A number in 16 bits; one that does not fit becomes the largest, which is
+/// as far outside every range.
+fn short(number: u64) -> u16 {
+    number.try_into().unwrap_or(u16::MAX)
+}

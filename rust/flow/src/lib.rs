@@ -1,0 +1,240 @@
+//! The flow comparer of document 01, from Rust.
+//!
+//! Each function here is one exported call of the proved archive. Sheets,
+//! grids, turn lists and names are bytes, low byte first, exactly as document
+//! 01 lays them out; plans are slices of 16-bit numbers, four an entry.
+//! A refused call leaves every lent buffer as it was.
+//!
+//! ```
+//! // Pages 0, 1, 2 with the moves 0 -1-> 1 and 2 -1-> 2.
+//! let sheet = [
+//!     3, 0, 1, 0, 2, 0, // three pages, one action, two moves
+//!     0, 0, 1, 0, 0, 0, 0, 0, 0, 0, 2, 0, // the pages
+//!     1, 0, 1, 0, 0, 0, 1, 0, 2, 0, 0, 0, // the moves
+//! ];
+//! let mut start = flow::Grid::new(3);
+//! flow::end_start(&sheet, start.bytes_mut())?;
+//! let mut grid = flow::Grid::new(3);
+//! let mut names = [0; 6];
+//! let counts = flow::coarsest(&sheet, start.bytes(), &[], grid.bytes_mut(), &mut names)?;
+//! assert_eq!((counts.turns, counts.kept, counts.blocks), (2, 6, 3));
+//! assert!(grid.holds(0, 2) && !grid.holds(2, 0));
+//! # Ok::<(), flow::Refusal>(())
+//! ```
+//!
+//! # Panics
+//!
+//! The archive packs an answer into one number. A number that stands for no
+//! answer of the call can only come from another archive than this crate was
+//! written for; then a call panics and names the symbol and the number.
+
+#![deny(unsafe_code)]
+#![warn(missing_docs)]
+
+mod archive;
+mod grid;
+mod packing;
+mod plan;
+mod refusal;
+
+pub use grid::Grid;
+pub use plan::{entries, Entry};
+pub use refusal::Refusal;
+
+use packing::Packed;
+
+/// What coarsest counts.
+#[derive(Clone, Copy, PartialEq, Eq, Debug)]
+pub struct Counts {
+    /// The number of turns made.
+    pub turns: u16,
+    /// The number of kept pairs.
+    pub kept: u32,
+    /// The number of blocks.
+    pub blocks: u16,
+}
+
+/// What compare finds.
+#[derive(Clone, Copy, PartialEq, Eq, Debug)]
+pub struct Compared {
+    /// Is (page 0 of the first, page 0 of the second) kept?
+    pub yes: bool,
+    /// The number of turns made on the joined flow.
+    pub turns: u16,
+}
+
+/// A pair of pages.
+#[derive(Clone, Copy, PartialEq, Eq, Debug)]
+pub struct Pair {
+    /// The page that the challenger moves from.
+    pub p: u16,
+    /// The page that the defender replies from.
+    pub q: u16,
+}
+
+/// Coarsest: makes turns by the turn list until nothing is pending, writes
+/// the kept pairs as a grid and each page's block name, two bytes a page.
+///
+/// Refuses with 1 to 6, 8 to 10 and 15. A turn list's odd last byte is ignored.
+///
+/// ```
+/// let f1 = [1, 0, 0, 0, 0, 0, 0, 0, 0, 0]; // one page, no moves
+/// let all = [1, 0, 0, 0, 0, 0, 0, 0];
+/// let (mut grid, mut names) = ([9; 8], [9; 2]);
+/// let counts = flow::coarsest(&f1, &all, &[], &mut grid, &mut names)?;
+/// assert_eq!(counts, flow::Counts { turns: 0, kept: 1, blocks: 1 });
+/// assert_eq!((grid, names), (all, [0; 2]));
+/// # Ok::<(), flow::Refusal>(())
+/// ```
+pub fn coarsest(
+    sheet: &[u8],
+    start: &[u8],
+    turn_list: &[u8],
+    grid: &mut [u8],
+    names: &mut [u8],
+) -> Result<Counts, Refusal> {
+    let result = archive::coarsest(sheet, start, turn_list, grid, names);
+    let mut packed = Packed::new("flow_coarsest", result)?;
+    let counts = Counts {
+        turns: packed.number(16) as u16,
+        kept: packed.number(24) as u32,
+        blocks: packed.number(16) as u16,
+    };
+    packed.end(counts)
+}
+
+/// Compare: joins two sheets and says whether page 0 of the second can follow
+/// page 0 of the first in everything, and the turns made.
+///
+/// Refuses with 1 to 6 for the first sheet, then for the second, then 7.
+///
+/// ```
+/// let f1 = [1, 0, 0, 0, 0, 0, 0, 0, 0, 0]; // one page, no moves
+/// let one_loop = [1, 0, 1, 0, 1, 0, 0, 0, 1, 0, 1, 0, 0, 0, 0, 0];
+/// assert!(flow::compare(&f1, &one_loop)?.yes);
+/// assert!(!flow::compare(&one_loop, &f1)?.yes);
+/// assert_eq!(flow::compare(&f1, &[]), Err(flow::Refusal::Length));
+/// # Ok::<(), flow::Refusal>(())
+/// ```
+pub fn compare(first: &[u8], second: &[u8]) -> Result<Compared, Refusal> {
+    let mut packed = Packed::new("flow_compare", archive::compare(first, second))?;
+    let compared = Compared {
+        yes: packed.yes(),
+        turns: packed.number(16) as u16,
+    };
+    packed.end(compared)
+}
+
+/// Normalise: writes the sheet's normal form into a buffer of the sheet's own
+/// length.
+///
+/// Refuses with 1 to 6 and 15.
+///
+/// ```
+/// let f1 = [1, 0, 0, 0, 0, 0, 0, 0, 0, 0];
+/// let mut out = [7; 10];
+/// flow::normalise(&f1, &mut out)?;
+/// assert_eq!(out, f1);
+/// # Ok::<(), flow::Refusal>(())
+/// ```
+pub fn normalise(sheet: &[u8], out: &mut [u8]) -> Result<(), Refusal> {
+    Packed::new("flow_normalise", archive::normalise(sheet, out))?.end(())
+}
+
+/// End start: writes the grid that holds (p, q) unless p has the end mark and
+/// q has not.
+///
+/// Refuses with 1 to 6 and 15.
+///
+/// ```
+/// let marked = [1, 0, 0, 0, 0, 0, 1, 0, 0, 0]; // one page with the end mark
+/// let mut grid = [7; 8];
+/// flow::end_start(&marked, &mut grid)?;
+/// assert_eq!(grid, [1, 0, 0, 0, 0, 0, 0, 0]);
+/// # Ok::<(), flow::Refusal>(())
+/// ```
+pub fn end_start(sheet: &[u8], grid: &mut [u8]) -> Result<(), Refusal> {
+    Packed::new("flow_end_start", archive::end_start(sheet, grid))?.end(())
+}
+
+/// Test simulation: is the claimed grid a simulation inside the start?
+///
+/// Refuses with 1 to 6, then 8 to 10 for the start, then 8 for the claim.
+///
+/// ```
+/// let f1 = [1, 0, 0, 0, 0, 0, 0, 0, 0, 0];
+/// let (all, none) = ([1, 0, 0, 0, 0, 0, 0, 0], [0; 8]);
+/// assert!(flow::test_simulation(&f1, &all, &none)?);
+/// assert_eq!(flow::test_simulation(&f1, &none, &all), Err(flow::Refusal::NotReflexive));
+/// # Ok::<(), flow::Refusal>(())
+/// ```
+pub fn test_simulation(sheet: &[u8], start: &[u8], claim: &[u8]) -> Result<bool, Refusal> {
+    let result = archive::test_simulation(sheet, start, claim);
+    let mut packed = Packed::new("flow_test_simulation", result)?;
+    let yes = packed.yes();
+    packed.end(yes)
+}
+
+/// Check plan: accepts a non-empty plan of sound entries and gives its last
+/// pair. Numbers past the last whole entry count for nothing.
+///
+/// Refuses with 1 to 6, 8 to 10 and 14.
+///
+/// ```
+/// let f1 = [1, 0, 0, 0, 0, 0, 0, 0, 0, 0];
+/// let all = [1, 0, 0, 0, 0, 0, 0, 0];
+/// assert_eq!(flow::check_plan(&f1, &all, &[0, 0, 0, 0]), Err(flow::Refusal::Unsound));
+/// ```
+pub fn check_plan(sheet: &[u8], start: &[u8], plan: &[u16]) -> Result<Pair, Refusal> {
+    let result = archive::check_plan(sheet, start, plan);
+    let mut packed = Packed::new("flow_check_plan", result)?;
+    let pair = Pair {
+        p: packed.number(16) as u16,
+        q: packed.number(16) as u16,
+    };
+    packed.end(pair)
+}
+
+/// Write plan: writes the plan for the dropped pair (p, q) and gives its
+/// count of entries. Numbers past them stay as they are. At most n · n
+/// entries are needed.
+///
+/// Refuses with 1 to 6, 8 to 11, 13 and 15.
+///
+/// ```
+/// let two = [2, 0, 0, 0, 0, 0, 0, 0, 0, 0, 0, 0, 0, 0]; // two pages, no moves
+/// let diagonal = [1, 0, 0, 0, 0, 0, 0, 0, 2, 0, 0, 0, 0, 0, 0, 0];
+/// let mut plan = [9; 5];
+/// assert_eq!(flow::write_plan(&two, &diagonal, 0, 1, &mut plan), Ok(1));
+/// assert_eq!(plan, [0, 1, 0, 0, 9]);
+/// assert_eq!(flow::write_plan(&two, &diagonal, 1, 1, &mut plan), Err(flow::Refusal::Kept));
+/// ```
+pub fn write_plan(
+    sheet: &[u8],
+    start: &[u8],
+    p: u64,
+    q: u64,
+    plan: &mut [u16],
+) -> Result<usize, Refusal> {
+    let result = archive::write_plan(sheet, start, p, q, plan);
+    let mut packed = Packed::new("flow_write_plan", result)?;
+    let count = packed.number(32) as usize;
+    packed.end(count)
+}
+
+/// Hand play: does the challenger win at (p, q) within the given rounds?
+///
+/// Refuses with 1 to 6 and 8 to 12.
+///
+/// ```
+/// let f1 = [1, 0, 0, 0, 0, 0, 0, 0, 0, 0];
+/// let all = [1, 0, 0, 0, 0, 0, 0, 0];
+/// assert_eq!(flow::hand_play(&f1, &all, 0, 0, 6), Ok(false));
+/// assert_eq!(flow::hand_play(&f1, &all, 0, 0, 7), Err(flow::Refusal::Rounds));
+/// ```
+pub fn hand_play(sheet: &[u8], start: &[u8], p: u64, q: u64, rounds: u64) -> Result<bool, Refusal> {
+    let result = archive::hand_play(sheet, start, p, q, rounds);
+    let mut packed = Packed::new("flow_hand_play", result)?;
+    let wins = packed.yes();
+    packed.end(wins)
+}

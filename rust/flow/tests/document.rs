@@ -1,0 +1,130 @@
+//! The cases of document 01, through the safe calls.
+
+use flow::{Compared, Counts, Grid, Pair, Refusal};
+use reference::lts::Lts;
+use reference::sheet;
+
+/// F3's sheet, as document 01 prints it.
+const F3: [u8; 30] = [
+    3, 0, 1, 0, 2, 0, 0, 0, 1, 0, 0, 0, 0, 0, 0, 0, 2, 0, 1, 0, 1, 0, 0, 0, 1, 0, 2, 0, 0, 0,
+];
+
+/// The end start of a sheet.
+fn end_start(sheet: &[u8]) -> Result<Grid, Refusal> {
+    let mut start = Grid::new(usize::from(sheet[0]));
+    flow::end_start(sheet, start.bytes_mut())?;
+    Ok(start)
+}
+
+/// Coarsest from the end start with an empty turn list; also checks that its
+/// grid is a simulation and that each page's name is in its block.
+fn coarsest(sheet: &[u8]) -> Result<(Counts, Grid), Refusal> {
+    let start = end_start(sheet)?;
+    let pages = usize::from(sheet[0]);
+    let (mut grid, mut names) = (Grid::new(pages), vec![0xff; 2 * pages]);
+    let counts = flow::coarsest(sheet, start.bytes(), &[], grid.bytes_mut(), &mut names)?;
+    assert!(flow::test_simulation(sheet, start.bytes(), grid.bytes())?);
+    for (p, name) in names.chunks_exact(2).enumerate() {
+        let name = usize::from(name[0]);
+        assert!(grid.holds(p, name) && grid.holds(name, p));
+    }
+    Ok((counts, grid))
+}
+
+#[test]
+fn f1_to_f4() {
+    let f1 = Lts::of(1, 0, &[]);
+    let f2 = Lts::of(2, 1, &[(0, 1, 1), (1, 1, 0)]);
+    let f3 = Lts::of(3, 1, &[(0, 1, 1), (2, 1, 2)]);
+    let f4 = Lts::of(4, 1, &[(0, 1, 1), (1, 1, 2), (2, 1, 3)]);
+    assert_eq!(sheet::write(&f3), F3);
+    for (flow, turns, kept, blocks) in [(f1, 0, 1, 1), (f2, 0, 4, 1), (f3, 2, 6, 3), (f4, 3, 10, 4)]
+    {
+        let counts = Counts {
+            turns,
+            kept,
+            blocks,
+        };
+        assert_eq!(coarsest(&sheet::write(&flow)).map(|(c, _)| c), Ok(counts));
+    }
+}
+
+#[test]
+fn f3_grid() {
+    let (_, grid) = coarsest(&F3).expect("a readable sheet");
+    let kept = [[0, 0], [0, 2], [1, 0], [1, 1], [1, 2], [2, 2]];
+    for p in 0..3 {
+        for q in 0..3 {
+            assert_eq!(grid.holds(p, q), kept.contains(&[p, q]), "{p} {q}");
+        }
+    }
+}
+
+#[test]
+fn f5_plan() {
+    let start = end_start(&F3).expect("a readable sheet");
+    let mut plan = [9; 14];
+    let written = flow::write_plan(&F3, start.bytes(), 2, 0, &mut plan);
+    assert_eq!(written, Ok(3));
+    assert_eq!(plan, [0, 1, 1, 1, 2, 1, 1, 2, 2, 0, 1, 2, 9, 9]);
+    let pair = Pair { p: 2, q: 0 };
+    assert_eq!(flow::check_plan(&F3, start.bytes(), &plan), Ok(pair));
+    let short = flow::write_plan(&F3, start.bytes(), 2, 0, &mut plan[..11]);
+    assert_eq!(short, Err(Refusal::Buffer));
+    let kept = flow::write_plan(&F3, start.bytes(), 0, 2, &mut plan);
+    assert_eq!(kept, Err(Refusal::Kept));
+}
+
+#[test]
+fn f6_hand_play() {
+    let start = end_start(&F3).expect("a readable sheet");
+    let wins = |rounds| flow::hand_play(&F3, start.bytes(), 2, 0, rounds);
+    assert_eq!((wins(1), wins(2)), (Ok(false), Ok(true)));
+    assert_eq!(wins(7), Err(Refusal::Rounds));
+    let beyond = flow::hand_play(&F3, start.bytes(), 2, 3, 1);
+    assert_eq!(beyond, Err(Refusal::Page));
+}
+
+#[test]
+fn f7_to_f9_leave_the_buffer() {
+    let mut no_pages = F3.to_vec();
+    no_pages[0] = 0;
+    let longer = [&F3[..], &[0]].concat();
+    let mut itself = F3.to_vec();
+    itself[22] = 1;
+    for (sheet, refusal) in [
+        (no_pages, Refusal::Counts),
+        (longer, Refusal::Length),
+        (itself, Refusal::Chain),
+    ] {
+        let mut out = vec![0xa5; sheet.len()];
+        assert_eq!(flow::normalise(&sheet, &mut out), Err(refusal));
+        assert!(out.iter().all(|&byte| byte == 0xa5));
+    }
+}
+
+#[test]
+fn comparing() {
+    let one = sheet::write(&Lts::of(2, 1, &[(0, 1, 1)]));
+    let answer = |yes, turns| Ok(Compared { yes, turns });
+    assert_eq!(flow::compare(&one, &one), answer(true, 1));
+    assert_eq!(flow::compare(&F3, &one), answer(true, 2));
+    let loops = sheet::write(&Lts::of(1, 1, &[(0, 1, 0)]));
+    assert_eq!(flow::compare(&loops, &one).map(|c| c.yes), Ok(false));
+    assert_eq!(flow::compare(&F3[..5], &one), Err(Refusal::Length));
+    let large = sheet::write(&Lts::of(255, 0, &[]));
+    assert_eq!(flow::compare(&one, &large), Err(Refusal::Joined));
+}
+
+#[test]
+fn refusals_have_their_numbers() {
+    for (at, refusal) in Refusal::ALL.into_iter().enumerate() {
+        assert_eq!(usize::from(refusal.number()), at + 1);
+        assert_eq!(Refusal::from_number(at as u64 + 1), Some(refusal));
+        assert!(refusal
+            .to_string()
+            .starts_with(&format!("refused {}: ", at + 1)));
+    }
+    assert_eq!(Refusal::from_number(0), None);
+    assert_eq!(Refusal::from_number(16), None);
+}
