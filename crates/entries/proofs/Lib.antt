@@ -1,5 +1,3 @@
-pub mod Reborrow
-pub mod SharedReborrow
 pub mod LocalArray
 pub mod Steps
 pub mod Element

@@ -17,7 +17,7 @@ use Rattle.lts.specs.Strategy.{entriesOf, numbersOf, strategy, refutedCount, st
 use Rattle.lts.specs.declared.Refusal.{Refusal}
 use Rattle.lts.specs.declared.Refusal.the-variants.{NoState, StillRelated, Buffer}
 use Rattle.lts.proofs.Count.{sum-lt, count-least}
-use Rattle.lts.proofs.Strategy.{strategy-count}
+use Rattle.lts.proofs.Strategy.{entries-numbers, strategy-count}
 use Rattle.encoding.specs.declared.Header.{Header}
 use Rattle.encoding.specs.declared.Reading.{Reading}
 use Rattle.encoding.specs.declared.Reading.the-variants.{Readable, Refused as Unreadable}
@@ -56,11 +56,6 @@ pub entries-append : (es : List Entry) (xs : List ℕ) → entriesOf (numbersOf 
 unfolding entriesOf numbersOf
 entries-append [] xs = refl
 entries-append (e ∷ es) xs = ap (λ (l : List Entry). e ∷ l) (entries-append es xs)
-
-pub entries-numbers : (es : List Entry) → entriesOf (numbersOf es) ≡ es
-unfolding entriesOf numbersOf
-entries-numbers [] = refl
-entries-numbers (e ∷ es) = ap (λ (l : List Entry). e ∷ l) (entries-numbers es)
 
 drop-numbers : (k : ℕ) (es : List Entry) → drop (4 * k) (numbersOf es) ≡ numbersOf (drop k es)
 unfolding numbersOf

@@ -20,7 +20,7 @@ use Rattle.lts.proofs.Table.{table-formed}
 use Rattle.relation.specs.Matrix.{bit, inRow, rowOf, relationOf, matrixOf, setRow}
 use Rattle.relation.proofs.Bounded.{any-no, any-cong, all-cong, clash, length-listBelow}
 use Rattle.relation.proofs.Bits.{bit-of-zero, bit-not}
-use Rattle.relation.proofs.Rows.{inRow-of, rowOf-cong, row-ext}
+use Rattle.relation.proofs.Rows.{inRow-ones, getD-zeros, inRow-of, rowOf-cong, row-ext}
 use Rattle.relation.proofs.Matrices.{matrixOf-cong, relation-of}
 use Rattle.predecessors.specs.Sources.{Numbers, sourcesInto, actionSet, removeSet}
 use Rattle.predecessors.proofs.Tables.{all-more, equal, entry-leads, entry-of, initial-at, has-actions}
@@ -31,23 +31,12 @@ use Rattle.predecessors.proofs.Tables.{all-more, equal, entry-leads, en
 pub row-whole : (k : ℕ) (S : Set) (d : List ℕ) → length d ≡ k → rowOf k S ++ drop k d ≡ rowOf k S
 row-whole k S d e = ap (λ (l : List ℕ). rowOf k S ++ l) (drop-of-length-le d {i = k} (omega arith)) ∙ append-nil (rowOf k S)
 
--- words that are all 0 hold no state, and words that are all ones every state
+-- words that are all 0 hold no state
 pub row-none : (k : ℕ) → replicate k 0 ≡ rowOf k (λ q. false)
 unfolding inRow
 row-none k =
-    row-ext k (λ q. false) (replicate k 0) (length-replicate k 0) (λ j. rw (zeros k j) (pow-pos 64))
-    (λ q h. ap (λ (x : ℕ). bit x (q % 64)) (zeros k (q / 64)) ∙ bit-of-zero (q % 64))
-  where
-    zeros : (k j : ℕ) → getD (replicate {A = ℕ} k 0) j 0 ≡ 0
-    zeros zero j = refl
-    zeros (suc k) zero = refl
-    zeros (suc k) (suc j) = zeros k j
-
-row-all : (k q : ℕ) → q < k * 64 → inRow (replicate k 18446744073709551615) q ≡ true
-unfolding inRow
-row-all k q h =
-    ap (λ (x : ℕ). bit x (q % 64)) (getD-replicate k (q / 64) 18446744073709551615 0 (omega arith))
-    ∙ bit-not 64 0 (q % 64) (mod-lt q (omega arith)) (pow-pos 64) ∙ ap not (bit-of-zero (q % 64))
+    row-ext k (λ q. false) (replicate k 0) (length-replicate k 0) (λ j. rw (getD-zeros k j) (pow-pos 64))
+    (λ q h. ap (λ (x : ℕ). bit x (q % 64)) (getD-zeros k (q / 64)) ∙ bit-of-zero (q % 64))
 
 -- ---- the sets of each action in one row
 
@@ -84,7 +73,7 @@ module _ (k : ℕ) (sources actions targets : List ℕ) where
       → row ≡ rowOf 260 (sourcesInto k sources actions targets (λ t. true))
   sources-all numbers e =
       e ∙ rowOf-cong 260 _ _ (λ x h.
-      sources-cong (inRow (replicate 4 18446744073709551615)) (λ t. true) (λ i l. row-all 4 (getD targets i 0) (omega (arith, numbers .target i l))) x)
+      sources-cong (inRow (replicate 4 18446744073709551615)) (λ t. true) (λ i l. inRow-ones 4 (getD targets i 0) (omega (arith, numbers .target i l))) x)
 
   pub sources-empty : (x : ℕ) → sourcesInto k sources actions targets (λ q. false) x ≡ false
   unfolding sourcesInto

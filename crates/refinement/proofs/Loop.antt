@@ -17,12 +17,13 @@ use Rattle.lts.proofs.System.{Preorder}
 use Rattle.lts.proofs.Table.{table-formed}
 use Rattle.relation.specs.Matrix.{inRow, rowOf, statesBelow, relationOf, matrixOf, Matrix}
 use Rattle.relation.proofs.Bounded.{T-true, length-listBelow}
+use Rattle.relation.proofs.Rows.{inRow-ones}
 use Rattle.relation.proofs.Matrices.{relation-of, formed-of, matrixOf-cong}
 use Rattle.partition.proofs.Laws as partition
 use Rattle.splitting.specs.Split.{Parted}
 use Rattle.refinement.specs.Engine.{heldBy, relationsOf, Steady, State, Start}
 use Rattle.refinement.proofs.Laws.{held-at, block-held, state-begin, state-steady, state-next, state-end, state-below, chosen-below}
-use Rattle.refinement.proofs.Pending.{pendingAt, row-all}
+use Rattle.refinement.proofs.Pending.{pendingAt}
 
 pub record At (n m k : ℕ) (sources actions targets start schedule : List ℕ) (steps : ℕ) (related viewed blocks shared pending : List ℕ) (c : ℕ) : Type 0 where
   pub state : State (tableLts n m k sources actions targets) (relationOf n start) schedule steps related viewed blocks
@@ -103,7 +104,7 @@ module _ (n m k : ℕ) (sources actions targets : List ℕ) (tab : Table n m k s
     parted-first = record {
       sym = λ g h hg hh e. same-blocks h g hh hg ∙ turn (relationOf n related g h) (relationOf n related h g) (sym (same-blocks g h hg hh) ∙ e);
       loop = λ g hg. same-blocks g g hg hg ∙ ap (λ (b : Bool). b && b) (reflexive g hg);
-      single = λ g h hg hh out e. absurd (true≢false (sym (row-all 4 g (omega (arith, hg, tab .states))) ∙ out));
+      single = λ g h hg hh out e. absurd (true≢false (sym (inRow-ones 4 g (omega (arith, hg, tab .states))) ∙ out));
     }
       where
         turn : (a b : Bool) → a && b ≡ true → b && a ≡ true
@@ -116,7 +117,7 @@ module _ (n m k : ℕ) (sources actions targets : List ℕ) (tab : Table n m k s
         → pending ≡ rowOf 4 (λ p. cond (ltb p n && inRow (replicate 4 18446744073709551615) p) (pendingAt n related viewed blocks p) (inRow (replicate 4 0) p))
         → pending ≡ rowOf 4 (statesBelow n (pendingAt n related viewed blocks))
     pending-first pending e =
-        partition.update-first (inRow (replicate 4 18446744073709551615)) (pendingAt n related viewed blocks) n pending (λ x h. row-all 4 x (omega (arith, h, tab .states))) e
+        partition.update-first (inRow (replicate 4 18446744073709551615)) (pendingAt n related viewed blocks) n pending (λ x h. inRow-ones 4 x (omega (arith, h, tab .states))) e
 
     module _ (pending : List ℕ) (c : ℕ) (pending-is : pending ≡ rowOf 4 (statesBelow n (pendingAt n related viewed blocks))) (count : c ≡ length (passing n (inRow pending))) where
       listed : passing n (inRow pending) ≡ passing n (pendingAt n related viewed blocks)

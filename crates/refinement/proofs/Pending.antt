@@ -1,16 +1,13 @@
 -- The set of the pending representatives and the set of the states that share a block, from step to step. Assumes nothing.
-use Prim.Native.Nat.{ℕ, _*_, _/_, _%_, _≤_, _<_}
-use native.Mathlib.Nat.{mod-lt}
+use Prim.Native.Nat.{ℕ, _*_, _≤_, _<_}
 use native.Mathlib.Omega.{arith}
 use mathlib.Core.Path.{_≡_, refl, sym, ap, ap₂, _∙_}
 use mathlib.Core.Bool.{Bool, true, false, cond, not, _&&_, xor, true≢false}
 use mathlib.Core.List.{List, _++_}
 use lib.Dec.{eqb, ltb}
-use lib.ListN.{drop, replicate, getD-replicate}
-use lib.Pow.{pow-pos}
+use lib.ListN.{drop}
 use Rattle.lts.specs.System.{Set, Rel}
-use Rattle.relation.specs.Matrix.{bit, inRow, rowOf, statesBelow, relationOf}
-use Rattle.relation.proofs.Bits.{bit-of-zero, bit-not}
+use Rattle.relation.specs.Matrix.{inRow, rowOf, statesBelow, relationOf}
 use Rattle.relation.proofs.Bounded.{any-cong}
 use Rattle.relation.proofs.Rows.{inRow-written}
 use Rattle.partition.specs.Pending.{pendingIn}
@@ -21,13 +18,6 @@ use Rattle.refinement.specs.Engine.{Unmoved}
 
 abbrev pub pendingAt : ℕ → List ℕ → List ℕ → List ℕ → Set
 pendingAt n related viewed blocks = pendingIn n (relationOf n related) (relationOf n viewed) (relationOf n blocks)
-
--- words that are all ones hold every state
-pub row-all : (k q : ℕ) → q < k * 64 → inRow (replicate k 18446744073709551615) q ≡ true
-unfolding inRow
-row-all k q h =
-    ap (λ (x : ℕ). bit x (q % 64)) (getD-replicate k (q / 64) 18446744073709551615 0 (omega arith))
-    ∙ bit-not 64 0 (q % 64) (mod-lt q (omega arith)) (pow-pos 64) ∙ ap not (bit-of-zero (q % 64))
 
 -- whether p is pending depends on its rows of K, V and the blocks alone
 pending-same : (n : ℕ) (K W P K′ W′ P′ : Rel) (p : ℕ) → ((q : ℕ) → q < n → K′ p q ≡ K p q) → ((q : ℕ) → q < n → W′ p q ≡ W p q) → ((q : ℕ) → q < n → P′ p q ≡ P p q)

@@ -8,7 +8,7 @@ use native.Mathlib.Nat.{div-add-mod', mod-lt, eq-or-lt-of-le}
 use native.Mathlib.Omega.{arith}
 use lib.Bits.{bitAnd, bitOr, bitXor, and-lt, or-lt, xor-lt, and-le-l}
 use lib.Arith.{digits-div, digits-mod}
-use lib.ListN.{length, replicate, List·getD-append, getD, set, drop, length-set}
+use lib.ListN.{length, replicate, getD-replicate, List·getD-append, getD, set, drop, length-set}
 use lib.Seq.{getD-drop, getD-append-add, getD-set-same, getD-set-other}
 use lib.Dec.{eqb}
 use lib.Pow.{pow-pos}
@@ -65,6 +65,12 @@ getD-zeros (suc k) (suc j) = getD-zeros k j
 pub inRow-zeros : (k q : ℕ) → inRow (replicate k 0) q ≡ false
 unfolding inRow
 inRow-zeros k q = ap (λ (x : ℕ). bit x (q % 64)) (getD-zeros k (q / 64)) ∙ bit-of-zero (q % 64)
+
+pub inRow-ones : (k q : ℕ) → q < k * 64 → inRow (replicate k 18446744073709551615) q ≡ true
+unfolding inRow
+inRow-ones k q h =
+    ap (λ (x : ℕ). bit x (q % 64)) (getD-replicate k (q / 64) 18446744073709551615 0 (omega arith))
+    ∙ bit-not 64 0 (q % 64) (mod-lt q (omega arith)) (pow-pos 64) ∙ ap not (bit-of-zero (q % 64))
 
 -- words of the same members are the same
 pub rowOf-cong : (k : ℕ) (A B : ℕ → Bool) → ((q : ℕ) → q < k * 64 → A q ≡ B q) → rowOf k A ≡ rowOf k B

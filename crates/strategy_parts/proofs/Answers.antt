@@ -29,7 +29,8 @@ use Rattle.strategy.specs.declared.Verdict.the-variants.{Last, Refused}
 use Rattle.strategy.specs.Check.{onPreorder, checkReadable, checkStrategy}
 use Rattle.strategy.proofs.Checks.{readable}
 use Rattle.strategy_parts.specs.Parts.{marked, waitingEntry, withWaiting, judgeWaiting, Judged, Taken, Judges, SameWaiting, answered}
-use Rattle.strategy_parts.proofs.Steps.{last-more, list-more, list-same, round-trip, same-entry, judged-waiting}
+use Rattle.lts.proofs.Strategy.{entries-numbers}
+use Rattle.strategy_parts.proofs.Steps.{last-more, list-more, list-same, same-entry, judged-waiting}
 
 -- ---- an entry is put at its place
 
@@ -306,7 +307,7 @@ unfolding answered checkReadable
 concluded s h preorder work other count long r judges same es n known =
     on-same (checkPreorder (h .states) preorder) (found other count) (given L R (entriesOf (numbersOf es)))
     (λ ok. found-given L R other count es n (now-judged ok) (λ k e. known .last k e ∙ sym (same-entry work other same (k % 1024)))
-    ∙ ap (given L R) (sym (round-trip es)))
+    ∙ ap (given L R) (sym (entries-numbers es)))
     ∙ readable s h preorder (numbersOf es) r
   where
     L : Lts

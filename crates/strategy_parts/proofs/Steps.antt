@@ -92,11 +92,6 @@ list-same (suc c) f g same =
     let first : 0 < suc c = omega arith in
     ap₂ (λ (x : Entry) (l : List Entry). x ∷ l) (same 0 first) (list-same c (λ i. f (suc i)) (λ i. g (suc i)) (λ i h. let up : suc i < suc c = omega (arith, h) in same (suc i) up))
 
-pub round-trip : (es : List Entry) → entriesOf (numbersOf es) ≡ es
-unfolding entriesOf numbersOf
-round-trip [] = refl
-round-trip (e ∷ es) = ap (λ (l : List Entry). e ∷ l) (round-trip es)
-
 -- ---- an entry is judged
 
 pub judge-length : (L : Lts) (preorder : Rel) (work : List ℕ) (e : Entry) → length (judgeEntry L preorder work e) ≡ length work

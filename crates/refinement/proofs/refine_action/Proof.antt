@@ -56,9 +56,13 @@ returns c =
     let first = c .before .before .before .before .before .before .before .before .before .before .before .before .before .before .before .before .before .split-by .ensures in
     let then = c .before .before .before .before .prune-by .ensures in (
       related-refined (a .n) outside inside members (a .a) K P (pre .0) _ rem _ _ _ _ (c .before .before .before .before .before .before .before .before .action-part .ensures) (first .0) (first .1 .0) (then .0),
-      (blocks-split (a .n) outside inside members (a .a) K P (pre .0) _ rem _ (first .1 .0),
-      (untouched-then (a .n) _ _ _ _ _ _ _ _ _ (first .1 .1 .0) (then .1),
-      first .1 .1 .1)),
+      (
+        blocks-split (a .n) outside inside members (a .a) K P (pre .0) _ rem _ (first .1 .0),
+        (
+          untouched-then (a .n) _ _ _ _ _ _ _ _ _ (first .1 .1 .0) (then .1),
+          first .1 .1 .1,
+        ),
+      ),
     )
 
 returns-2 : tie.Need-returns-2
@@ -73,9 +77,13 @@ returns-2 c =
     let rem = c .before .before .before .remove-set .ensures in
     let none = sym (c .if1 .left) ∙ c .before .row-any .ensures in (
       matrix-relation _ _ (pre .2) (λ j. c .before .before .before .before .before .before .slice-known .given j .fits) ∙ related-idle (a .n) outside inside members (a .a) K P (pre .0) _ rem none,
-      (matrix-relation _ _ (pre .3) (λ j. c .before .before .before .before .before .slice-known2 .given j .fits) ∙ blocks-idle (a .n) outside inside members (a .a) K P (pre .0) _ rem none,
-      (untouched-none (a .n) _ _ _ (pre .5),
-      pre .4)),
+      (
+        matrix-relation _ _ (pre .3) (λ j. c .before .before .before .before .before .slice-known2 .given j .fits) ∙ blocks-idle (a .n) outside inside members (a .a) K P (pre .0) _ rem none,
+        (
+          untouched-none (a .n) _ _ _ (pre .5),
+          pre .4,
+        ),
+      ),
     )
 
 pub refine-action-spec : {M : Type 1} → statement M

@@ -66,9 +66,13 @@ returns c =
     let inv = c .before .loop .inv in
     let last : c .before .loop .a ≡ a .m = omega arith in (
       inv .1 ∙ ap (λ (j : ℕ). matrixOf (a .n) (acted (a .n) (now (a .outside)) (now (a .inside)) (now (a .members)) j (now (a .related)) (now (a .blocks)) .related)) last,
-      (inv .2 ∙ ap (λ (j : ℕ). matrixOf (a .n) (acted (a .n) (now (a .outside)) (now (a .inside)) (now (a .members)) j (now (a .related)) (now (a .blocks)) .blocks)) last,
-      (inv .3,
-      inv .4)),
+      (
+        inv .2 ∙ ap (λ (j : ℕ). matrixOf (a .n) (acted (a .n) (now (a .outside)) (now (a .inside)) (now (a .members)) j (now (a .related)) (now (a .blocks)) .blocks)) last,
+        (
+          inv .3,
+          inv .4,
+        ),
+      ),
     )
 
 pub refine-actions-spec : {M : Type 1} → statement M

@@ -100,13 +100,19 @@ returns c =
     let viewed = c .before .before .before .before .before .before .before .before .before .before .before .before .before .before .before .before .before .before .before .before .before .before .before .set-views .ensures in (
       step-related n (a .m) (a .k) (now (a .sources)) (now (a .actions)) (now (a .targets)) tab (a .b) (start .pre .0 .5) (now (a .related)) (now (a .viewed)) (now (a .blocks)) is (members .result) (inside .result) (minus .last .0)
           (members .ensures) (inside .ensures) outside (start .pre .1 .1) _ _ _ outer inner own _ (acted .0),
-      (step-viewed n (a .m) (a .k) (now (a .sources)) (now (a .actions)) (now (a .targets)) tab (a .b) (start .pre .0 .5) (now (a .related)) (now (a .viewed)) (now (a .blocks)) is (members .result) (inside .result) (minus .last .0)
+      (
+        step-viewed n (a .m) (a .k) (now (a .sources)) (now (a .actions)) (now (a .targets)) tab (a .b) (start .pre .0 .5) (now (a .related)) (now (a .viewed)) (now (a .blocks)) is (members .result) (inside .result) (minus .last .0)
             (members .ensures) (inside .ensures) outside _ viewed,
-      (step-blocks n (a .m) (a .k) (now (a .sources)) (now (a .actions)) (now (a .targets)) tab (a .b) (start .pre .0 .5) (now (a .related)) (now (a .viewed)) (now (a .blocks)) is (members .result) (inside .result) (minus .last .0)
-            (members .ensures) (inside .ensures) outside (start .pre .1 .1) _ _ _ outer inner own _ (acted .1 .0),
-      (step-unmoved n (a .m) (a .k) (now (a .sources)) (now (a .actions)) (now (a .targets)) tab (a .b) (start .pre .0 .5) (now (a .related)) (now (a .viewed)) (now (a .blocks)) is (members .result) (inside .result) (minus .last .0)
-            (members .ensures) (inside .ensures) outside (c .before .before .before .before .before .before .before .before .before .before .before .before .row-set5 .ensures ∙ sym (members .ensures)) (acted .1 .1 .0) viewed,
-      acted .1 .1 .1))),
+        (
+          step-blocks n (a .m) (a .k) (now (a .sources)) (now (a .actions)) (now (a .targets)) tab (a .b) (start .pre .0 .5) (now (a .related)) (now (a .viewed)) (now (a .blocks)) is (members .result) (inside .result) (minus .last .0)
+              (members .ensures) (inside .ensures) outside (start .pre .1 .1) _ _ _ outer inner own _ (acted .1 .0),
+          (
+            step-unmoved n (a .m) (a .k) (now (a .sources)) (now (a .actions)) (now (a .targets)) tab (a .b) (start .pre .0 .5) (now (a .related)) (now (a .viewed)) (now (a .blocks)) is (members .result) (inside .result) (minus .last .0)
+                (members .ensures) (inside .ensures) outside (c .before .before .before .before .before .before .before .before .before .before .before .before .row-set5 .ensures ∙ sym (members .ensures)) (acted .1 .1 .0) viewed,
+            acted .1 .1 .1,
+          ),
+        ),
+      ),
     )
 
 pub refine-step-spec : {M : Type 1} → statement M

@@ -69,9 +69,13 @@ returns c =
     let related = c .before .before .before .before .before .before .before .before .before .before .before .before .split-related .ensures in
     let blocks = c .before .before .before .before .before .before .before .split-blocks .ensures in (
       related,
-      (blocks,
-      (split-untouched (a .n) (now (a .related)) (now (a .blocks)) (now (a .touched)) _ _ (pre .0) (pre .4) (c .before .before .row-union .ensures) Rem _ _ (whole (a .n) P (now (a .rem)) (now (a .shared)) _ _ (pre .0) (pre .3) (c .before .before .before .before .before .before .before .before .before .before .before .before .before .before .before .before .before .before .before .common-states .ensures) (c .before .before .before .before .before .before .before .before .before .before .before .before .before .before .before .before .meeting-rows .ensures)) related blocks,
-      parted-cong (a .n) _ _ (inRow (now (a .shared))) (relation-of (a .n) _ blocks) (parted-split (a .n) P (inRow (now (a .shared))) Rem (pre .3)))),
+      (
+        blocks,
+        (
+          split-untouched (a .n) (now (a .related)) (now (a .blocks)) (now (a .touched)) _ _ (pre .0) (pre .4) (c .before .before .row-union .ensures) Rem _ _ (whole (a .n) P (now (a .rem)) (now (a .shared)) _ _ (pre .0) (pre .3) (c .before .before .before .before .before .before .before .before .before .before .before .before .before .before .before .before .before .before .before .common-states .ensures) (c .before .before .before .before .before .before .before .before .before .before .before .before .before .before .before .before .meeting-rows .ensures)) related blocks,
+          parted-cong (a .n) _ _ (inRow (now (a .shared))) (relation-of (a .n) _ blocks) (parted-split (a .n) P (inRow (now (a .shared))) Rem (pre .3)),
+        ),
+      ),
     )
 
 pub split-by-spec : {M : Type 1} → statement M
