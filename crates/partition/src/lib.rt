@@ -7,7 +7,7 @@ ghost use lib.ListN.{length, getD};
 ghost use Rattle.lts.specs.Bounded.{countBelow, passing, listBelow, lowest};
 ghost use Rattle.lts.specs.Refinement.{block};
 ghost use Rattle.relation.specs.Matrix.{inRow, rowOf, rowWords, statesBelow, relationOf, matrixOf, Matrix, Row};
-ghost use Rattle.partition.specs.Pending.{pendingIn, Reflexive};
+ghost use Rattle.partition.specs.Pending.{pendingIn, Reflexive, Classes, blocksAt, Grown};
 
 // The block of p: the states that p is related to and that are related to p.
 fn block_of(related: &[u64], n: usize, p: usize) -> [u64; 4]
@@ -27,16 +27,31 @@ fn block_of(related: &[u64], n: usize, p: usize) -> [u64; 4]
     out
 }
 
-// Writes each state's block into its row.
+// Writes the block of p into the rows of its members, if row p is not written yet.
+fn write_block(related: &[u64], n: usize, p: usize, blocks: &mut [u64], written: &mut [u64])
+    requires { ⌜ (n ≤ 256) × Matrix n (now related) × Classes n (relationOf n (now related)) × (p < n) × (length (now written) ≡ 4) ⌝ }
+    requires { ⌜ now blocks ≡ matrixOf n (blocksAt (inRow (now written)) (relationOf n (now related))) ⌝ }
+    ensures { λ _. ⌜ now (blocks .exit) ≡ matrixOf n (blocksAt (inRow (now (written .exit))) (relationOf n (now (related .entry)))) ⌝ }
+    ensures { λ _. ⌜ Grown n p (now (written .entry)) (now (written .exit)) ⌝ }
+{
+    if relation::contains(written, p) {
+        return;
+    }
+    let members = block_of(related, n, p);
+    splitting::set_views(blocks, n, &members, &members);
+    relation::row_union(written, &members, 4);
+}
+
+// Writes each state's block into its row, a block at a time.
 pub fn write_blocks(related: &[u64], n: usize, blocks: &mut [u64])
-    requires { ⌜ (n ≤ 256) × Matrix n (now related) × (length (now blocks) ≡ n * rowWords n) ⌝ }
+    requires { ⌜ (n ≤ 256) × Matrix n (now related) × Classes n (relationOf n (now related)) × (length (now blocks) ≡ n * rowWords n) ⌝ }
     ensures { λ _. ⌜ now (blocks .exit) ≡ matrixOf n (block (relationOf n (now (related .entry)))) ⌝ }
 {
     relation::copy_matrix(blocks, related);
+    let mut written = [0u64; 4];
     let mut p = 0;
     while p < n {
-        let members = block_of(related, n, p);
-        relation::set_row(blocks, n, p, &members);
+        write_block(related, n, p, blocks, &mut written);
         p += 1;
     }
 }

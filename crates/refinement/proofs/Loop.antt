@@ -3,7 +3,7 @@ use Prim.Native.Nat.{ℕ, _+_, _*_, _%_, _≤_, _<_}
 use native.Mathlib.Nat.{mul-le-mul}
 use native.Mathlib.Numerals.{add-one}
 use native.Mathlib.Omega.{arith}
-use mathlib.Core.Path.{_≡_, refl, sym, _∙_, ap, subst}
+use mathlib.Core.Path.{_≡_, refl, sym, _∙_, ap, ap₂, subst}
 use mathlib.Core.Bool.{Bool, true, false, cond, _&&_, true≢false}
 use mathlib.Core.List.{List}
 use lib.Dec.{T, ltb}
@@ -13,12 +13,16 @@ use Rattle.lts.specs.System.{Set, Rel, Lts, WellFormed, anyState}
 use Rattle.lts.specs.Refinement as Refinement
 use Rattle.lts.specs.Refinement.{Relations, Run, initial, block, eachAction, stepOf, chosen, coarsest}
 use Rattle.lts.specs.Table.{tableLts, Table}
+use Rattle.lts.proofs.Bounded.{test-ext}
 use Rattle.lts.proofs.System.{Preorder}
+use Rattle.lts.proofs.Step.{block-iff}
+use Rattle.lts.proofs.Run.{initial-inv}
 use Rattle.lts.proofs.Table.{table-formed}
 use Rattle.relation.specs.Matrix.{inRow, rowOf, statesBelow, relationOf, matrixOf, Matrix}
 use Rattle.relation.proofs.Bounded.{T-true, length-listBelow}
 use Rattle.relation.proofs.Rows.{inRow-ones}
 use Rattle.relation.proofs.Matrices.{relation-of, formed-of, matrixOf-cong}
+use Rattle.partition.specs.Pending.{Classes}
 use Rattle.partition.proofs.Laws as partition
 use Rattle.splitting.specs.Split.{Parted}
 use Rattle.refinement.specs.Engine.{heldBy, relationsOf, Steady, State, Start}
@@ -53,6 +57,34 @@ module _ (n m k : ℕ) (sources actions targets : List ℕ) (tab : Table n m k s
   pre : Preorder L preorder
   unfolding tableLts
   pre = record { loop = st .loop; chain = st .chain }
+
+  -- the blocks of K at the beginning are classes
+  module _ (related : List ℕ) (is : related ≡ matrixOf n (initial L preorder .related)) where
+    abbrev K : Rel
+    K = initial L preorder .related
+
+    at : (p q : ℕ) → p < n → q < n → block (relationOf n related) p q ≡ block K p q
+    unfolding block
+    at p q l u = ap₂ _&&_ (relation-of n _ is p q l u) (relation-of n _ is q p u l)
+
+    moved : (p g h : ℕ) → T (block K p g) → T (block K p h) → T (block K g h)
+    moved p g h a b =
+        let 𝓑 = initial-inv L wf preorder pre .blocks in
+        let u = block-iff K p g .0 a in
+        let v = block-iff K p h .0 b in
+        block-iff K g h .1 (𝓑 .shiftL (v .0) (u .0) (u .1), 𝓑 .shiftR (v .1) (u .0) (u .1))
+
+    turned : (p g : ℕ) → T (block K p g) → T (block K g p)
+    turned p g a = let u = block-iff K p g .0 a in block-iff K g p .1 (u .1, u .0)
+
+    pub classes-first : Classes n (relationOf n related)
+    unfolding tableLts
+    classes-first = record {
+      own = λ p h. at p p h h ∙ T-true (block K p p) (block-iff K p p .1 (let k = initial-inv L wf preorder pre .blocks .loop h in (k, k)));
+      same = λ p g h hp hg hh e.
+          let a : T (block K p g) = subst T (sym e ∙ at p g hp hg) tt in
+          at p h hp hh ∙ test-ext (block K p h) (block K g h) (moved p g h a) (moved g p h (turned p g a)) ∙ sym (at g h hg hh);
+    }
 
   pub loop-begin : (related viewed blocks : List ℕ) → related ≡ matrixOf n (initial L preorder .related) → viewed ≡ matrixOf n (λ p q. true)
       → blocks ≡ matrixOf n (block (relationOf n related)) → State L preorder schedule 0 related viewed blocks

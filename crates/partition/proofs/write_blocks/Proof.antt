@@ -1,47 +1,49 @@
 use mathlib.Core.Path.{_≡_, sym, ap, _∙_}
-use Prim.Native.Nat.{_≤_, _-_}
+use mathlib.Core.Bool.{true}
+use mathlib.Core.Logic.{⊎-elim}
+use Prim.Native.Nat.{ℕ, _+_, _<_, _≤_, _-_}
+use native.Mathlib.Nat.{eq-or-lt-of-le, not-suc-le-zero}
 use native.Mathlib.Omega.{arith}
 use lib.ListN.{length}
 use denote.Ref.{now}
 use Rattle.lts.specs.Refinement.{block}
-use Rattle.relation.specs.Matrix.{relationOf, matrixOf, rowsOf}
-use Rattle.relation.proofs.Bounded.{length-listBelow}
-use Rattle.relation.proofs.Matrices.{matrix-relation, length-matrixOf, formed-of, done-none, done-all}
-use Rattle.partition.proofs.Laws.{block-row, states-row}
+use Rattle.relation.specs.Matrix.{inRow, relationOf, matrixOf}
+use Rattle.relation.proofs.Bounded.{lt-or-ge}
+use Rattle.relation.proofs.Rows.{inRow-zeros}
+use Rattle.relation.proofs.Matrices.{matrix-relation, length-matrixOf}
+use Rattle.partition.specs.Pending.{blocksAt}
+use Rattle.partition.proofs.Classes.{blocks-none, blocks-all}
 use borrow.Author.Needs.{needs}
 use Rattle.partition.proofs.write_blocks.Statement.{statement}
 use Rattle.partition.proofs.write_blocks.Tie as tie
 
 abbrev Inv-loop : tie.InvT-loop
-Inv-loop related n blocks₀ p₀ blocks p = (p ≤ n) × (blocks ≡ matrixOf n (rowsOf p (block (relationOf n related)) (relationOf n related)))
+Inv-loop related n blocks₀ written₀ p₀ blocks written p = (p ≤ n) × (length written ≡ 4) × (blocks ≡ matrixOf n (blocksAt (inRow written) (relationOf n related))) × ((g : ℕ) → g < p → inRow written g ≡ true)
 
 abbrev μ-loop : tie.MeasureT-loop
-μ-loop related n blocks₀ p₀ blocks p = n - p
+μ-loop related n blocks₀ written₀ p₀ blocks written p = n - p
 
 copy-matrix-requires : tie.Need-copy-matrix-requires Inv-loop μ-loop
 copy-matrix-requires c κs = search needs
 
 loop-holds : tie.Need-loop-holds Inv-loop μ-loop
 loop-holds c =
-    let start = c .before .before .before .before .before .before in (
+    let start = c .before .before .before .before .before .before in
+    let K = relationOf (start .args .n) (now (start .args .related)) in (
       search needs,
-      c .before .before .copy-matrix .ensures
-          ∙ matrix-relation _ _ (start .pre .1) (λ j. c .before .before .before .before .before .shared-slice-known .given j .fits) ∙ done-none _ _ _,
+      search needs,
+      c .before .before .copy-matrix .ensures ∙ matrix-relation _ _ (start .pre .1) (λ j. c .before .before .before .before .before .shared-slice-known .given j .fits) ∙ blocks-none (start .args .n) K _ (inRow-zeros 4),
+      λ g h. absurd (not-suc-le-zero h),
     )
 
-block-of-requires : tie.Need-block-of-requires Inv-loop μ-loop
-block-of-requires c κs =
-    let start = c .before .before .before .before .before .before .before .before in
-    (start .pre .0, start .pre .1, c .loop-test .taken)
+slice-aggregate-write-block : tie.Need-slice-aggregate-write-block Inv-loop μ-loop
+slice-aggregate-write-block c = search needs
 
-slice-aggregate-set-row : tie.Need-slice-aggregate-set-row Inv-loop μ-loop
-slice-aggregate-set-row c = sym (ap length (c .before .before .block-of .ensures) ∙ length-listBelow 4 _)
-
-set-row-requires : tie.Need-set-row-requires Inv-loop μ-loop
-set-row-requires c κs =
-    let at = c .before .before .before .before in
-    let start = at .before .before .before .before .before .before .before in
-    (formed-of _ _ (at .loop .inv .1), start .pre .0, c .before .before .before .loop-test .taken, states-row (start .args .n) _ (start .pre .0) (c .before .before .block-of .ensures))
+write-block-requires : tie.Need-write-block-requires Inv-loop μ-loop
+write-block-requires c κs =
+    let start = c .before .before .before .before .before .before .before .before .before .before in
+    let inv = c .before .before .before .loop .inv in
+    ((start .pre .0, start .pre .1, start .pre .2, c .before .before .loop-test .taken, inv .1), inv .2)
 
 add-p : tie.Need-add-p Inv-loop μ-loop
 add-p c = search needs
@@ -51,19 +53,25 @@ loop-less c = search needs
 
 loop-again : tie.Need-loop-again Inv-loop μ-loop
 loop-again c =
-    let at = c .before .before .before .before .before .before .before in
-    let start = at .before .before .before .before .before .before .before in
-    let a = start .args in (
-      search needs,
-      c .before .before .set-row .ensures
-          ∙ block-row (a .n) (relationOf (a .n) (now (a .related))) (at .loop .p) (at .loop .blocks) _ (start .pre .0) (at .loop .inv .1) (c .before .before .before .before .before .block-of .ensures),
+    let inv = c .before .before .before .before .before .before .before .loop .inv in
+    let got = c .before .before .before .write-block .ensures in
+    let n = c .before .before .before .before .before .before .before .before .before .before .before .before .before .before .args .n in
+    let hp : c .before .before .before .before .before .before .before .loop .p < n = c .before .before .before .before .before .before .loop-test .taken in (
+      omega (arith, hp),
+      got .1 .long,
+      got .0,
+      λ g h. ⊎-elim (λ (e : g ≡ c .before .before .before .before .before .before .before .loop .p). ap (inRow (c .before .before .before .write-block .last .1 .1 .1 .1 .0)) e ∙ got .1 .added) (λ (l : g < c .before .before .before .before .before .before .before .loop .p). got .1 .kept g (omega (arith, l, hp)) (inv .3 g l)) (eq-or-lt-of-le (omega (arith, h))),
     )
 
 same-length : tie.Need-same-length Inv-loop μ-loop
-same-length c = ap length (c .before .loop .inv .1) ∙ length-matrixOf _ _ ∙ sym (c .before .before .before .before .before .before .before .before .pre .2)
+same-length c =
+    ap length (c .before .loop .inv .2) ∙ length-matrixOf _ _ ∙ sym (c .before .before .before .before .before .before .before .before .pre .3)
 
 returns : tie.Need-returns Inv-loop μ-loop
-returns c = c .before .loop .inv .1 ∙ done-all _ _ _ _ (omega arith)
+returns c =
+    let inv = c .before .loop .inv in
+    let n = c .before .before .before .before .before .before .before .before .args .n in
+    inv .2 ∙ blocks-all n (relationOf n (now (c .before .before .before .before .before .before .before .before .args .related))) _ (λ g h. inv .3 g (omega (arith, h, c .loop-test .left)))
 
 pub write-blocks-spec : {M : Type 1} → statement M
 write-blocks-spec =
@@ -73,9 +81,8 @@ write-blocks-spec =
     μ-loop
     copy-matrix-requires
     loop-holds
-    block-of-requires
-    slice-aggregate-set-row
-    set-row-requires
+    slice-aggregate-write-block
+    write-block-requires
     add-p
     loop-less
     loop-again

@@ -9,7 +9,7 @@ use Rattle.relation.proofs.Rows.{getD-zeros}
 use Rattle.partition.proofs.Laws.{states-row}
 use Rattle.predecessors.proofs.Laws.{table-numbers}
 use Rattle.refinement.proofs.Pending.{pending-next}
-use Rattle.refinement.proofs.Loop.{At, pending-long, small-steps, loop-begin, related-formed, viewed-formed, blocks-formed, blocks-of, steady, parted-first, pending-first, loop-below, b-below, loop-next, end-steps, end-related, end-blocks}
+use Rattle.refinement.proofs.Loop.{classes-first, At, pending-long, small-steps, loop-begin, related-formed, viewed-formed, blocks-formed, blocks-of, steady, parted-first, pending-first, loop-below, b-below, loop-next, end-steps, end-related, end-blocks}
 use borrow.Author.Needs.{needs}
 use Rattle.refinement.proofs.refine_all.Statement.{statement}
 use Rattle.refinement.proofs.refine_all.Tie as tie
@@ -55,7 +55,8 @@ write-blocks-requires c κs =
     let tab = start .pre .0 .0 in
     let st = start .pre .0 .1 in
     let enabled-is = c .before .before .before .before .before .before .before .before .before .before .before .enabled-sources .ensures (a .k) (now (a .targets)) (table-numbers tab) (c .before .before .before .before .before .before .before .before .before .before .before .before .before .before .link-transitions .ensures) in
-    (tab .states, formed-of _ _ (c .before .before .before .before .before .before .before .before .write-initial .ensures (a .m) (now (a .targets)) tab enabled-is), start .pre .1 .2)
+    let first = c .before .before .before .before .before .before .before .before .write-initial .ensures (a .m) (now (a .targets)) tab enabled-is in
+    (tab .states, formed-of _ _ first, classes-first (a .n) (a .m) (a .k) (now (a .sources)) (now (a .actions)) (now (a .targets)) tab (now (a .start)) st (now (a .schedule)) _ first, start .pre .1 .2)
 
 slice-aggregate-drop-single : tie.Need-slice-aggregate-drop-single Inv-loop μ-loop
 slice-aggregate-drop-single c = search needs
