@@ -1,11 +1,15 @@
 -- Small cases, computed: the low byte first, an odd last byte ignored, the rest as it was.
 use mathlib.Core.Path.{_≡_, refl}
 use mathlib.Core.List.{[], _∷_}
-use Rattle.carry.specs.Carried.{numberOf, digits, numbersOf, bytesOf, loaded, stored}
+use Rattle.carry.specs.Carried.{numberOf, digits, numbersOf, listOf, bytesOf, loaded, stored}
 
 loaded-case : loaded 2 (1 ∷ 2 ∷ 3 ∷ 4 ∷ 5 ∷ []) (7 ∷ 8 ∷ 9 ∷ []) ≡ 513 ∷ 1027 ∷ 9 ∷ []
 unfolding loaded numbersOf numberOf
 loaded-case = refl
+
+list-case : listOf (1 ∷ 2 ∷ 3 ∷ 4 ∷ 5 ∷ []) ≡ 513 ∷ 1027 ∷ []
+unfolding listOf numbersOf numberOf
+list-case = refl
 
 stored-case : stored 2 (513 ∷ 1027 ∷ []) (6 ∷ 7 ∷ 8 ∷ 9 ∷ 10 ∷ []) ≡ 1 ∷ 2 ∷ 3 ∷ 4 ∷ 10 ∷ []
 unfolding stored bytesOf digits

@@ -2,7 +2,7 @@
 use Prim.Native.Nat.{ℕ, zero, suc, _+_, _-_, _*_, _/_, _%_, _^_, _<_, _≤_}
 use mathlib.Core.Path.{_≡_, refl, sym, ap, _∙_}
 use mathlib.Core.List.{List, [], _∷_, _++_, append-assoc, append-nil}
-use native.Mathlib.Nat.{pow-le-pow-right, pow-suc, not-suc-le-zero, mul-suc, mul-zero}
+use native.Mathlib.Nat.{pow-le-pow-right, pow-suc, not-suc-le-zero, le-of-suc-le-suc, mul-suc, mul-zero}
 use native.Mathlib.Numerals.{add-one, sub-one}
 use native.Mathlib.Omega.{arith}
 use lib.Dec.{lit<}
@@ -53,6 +53,15 @@ pub numbers-length : (k n : ℕ) (bs : List ℕ) → length (numbersOf k n bs) �
 unfolding numbersOf
 numbers-length k zero bs = refl
 numbers-length k (suc n) bs = ap suc (numbers-length k n (drop k bs))
+
+-- number i of those that the bytes carry
+pub numbers-at : (k n i : ℕ) (bs : List ℕ) → i < n → getD (numbersOf k n bs) i 0 ≡ numberOf (take k (drop (k * i) bs))
+unfolding numbersOf
+numbers-at k zero i bs h = absurd (not-suc-le-zero h)
+numbers-at k (suc n) zero bs h = rw mul-zero
+numbers-at k (suc n) (suc i) bs h =
+    let e : k + k * i ≡ k * suc i = rw mul-suc (omega arith) in
+    rw (← e, ← drop-drop (k * i) k bs) (numbers-at k n i (drop k bs) (le-of-suc-le-suc h))
 
 numbers-snoc : (k n : ℕ) (bs : List ℕ) → numbersOf k (suc n) bs ≡ numbersOf k n bs ++ (numberOf (take k (drop (k * n) bs)) ∷ [])
 unfolding numbersOf

@@ -18,6 +18,10 @@ unfoldable pub numbersOf : ℕ → ℕ → List ℕ → List ℕ
 numbersOf k zero bs = []
 numbersOf k (suc n) bs = numberOf (take k bs) ∷ numbersOf k n (drop k bs)
 
+-- a list of 16-bit numbers of any length; an odd last byte is ignored
+unfoldable pub listOf : List ℕ → List ℕ
+listOf bytes = numbersOf 2 (length bytes / 2) bytes
+
 -- the bytes that carry numbers, k bytes each
 unfoldable pub bytesOf : ℕ → List ℕ → List ℕ
 bytesOf k [] = []

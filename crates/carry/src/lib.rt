@@ -6,7 +6,7 @@ ghost use lib.ListN.{length, take, drop};
 ghost use Rattle.carry.specs.Carried.{numberOf, digits, loaded, stored};
 
 // The number that the k bytes from `at` on carry.
-fn read_number(bytes: &[u8], at: usize, k: usize) -> u64
+pub fn read_number(bytes: &[u8], at: usize, k: usize) -> u64
     requires { ⌜ k ≤ 8 ⌝ }
     requires { ⌜ at + k ≤ length (now bytes) ⌝ }
     ensures { λ r. ⌜ r ≡ numberOf (take k (drop at (now (bytes .entry)))) ⌝ }

@@ -96,10 +96,6 @@ module _ (f : ℕ → Bool) where
   unfolding passing
   passing-more i e = rw (add-one, e)
 
-  pub passing-skip : (i : ℕ) → f i ≡ false → passing (i + 1) f ≡ passing i f
-  unfolding passing
-  passing-skip i e = rw (add-one, e) (append-nil (passing i f))
-
   passing-grows : (n : ℕ) → length (passing n f) ≤ length (passing (suc n) f)
   unfolding passing
   passing-grows n = omega (arith, length-append (passing n f) (cond (f n) (n ∷ []) []))
@@ -162,12 +158,6 @@ pub passing-all : (n : ℕ) (f : ℕ → Bool) → ((i : ℕ) → i < n → f i 
 passing-all zero f e = passing-none f
 passing-all (suc n) f e = rw (passing-suc, passing-all n f (λ i l. e i (omega arith)), e n (le-refl _)) (omega arith)
 
-pub passing-cut : (n b : ℕ) (f : ℕ → Bool) → n ≤ b → ((i : ℕ) → n ≤ i → i < b → f i ≡ false) → length (passing b f) ≡ length (passing n f)
-passing-cut n b f l e =
-    let k : n + (b - n) ≡ b = omega arith in
-    let z = passing-zero (b - n) (λ t. f (n + t)) (λ i u. e (n + i) (omega arith) (omega arith)) in
-    rw (← k, passing-add, z) (omega arith)
-
 pub passing-or : (b y : ℕ) (g : ℕ → Bool) → y < b → g y ≡ false → length (passing b (λ x. eqb x y || g x)) ≡ suc (length (passing b g))
 passing-or zero y g l e = absurd (not-suc-le-zero l)
 passing-or (suc b) y g l e =
@@ -185,10 +175,6 @@ passing-or (suc b) y g l e =
 
 -- ## The lists f 0, .., f (n - 1), one after the other
 module _ {ℓ} {A : Type ℓ} (f : ℕ → List A) where
-  pub concat-none : concatBelow 0 f ≡ []
-  unfolding concatBelow
-  concat-none = refl
-
   pub concat-more : (i : ℕ) → concatBelow (i + 1) f ≡ concatBelow i f ++ f i
   unfolding concatBelow
   concat-more i = rw add-one

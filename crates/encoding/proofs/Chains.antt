@@ -1,6 +1,6 @@
--- Laws of chains, and of marks that are set along them.
-use Prim.Native.Nat.{ℕ, zero, suc, _+_, _-_, _≤_, _<_}
-use mathlib.Core.Path.{_≡_, refl, sym, _∙_}
+-- Laws of chains, of marks that are set along them, and of sets of what is on them.
+use Prim.Native.Nat.{ℕ, zero, suc, _+_, _*_, _-_, _≤_, _<_}
+use mathlib.Core.Path.{_≡_, refl, sym, ap, _∙_}
 use mathlib.Core.Bool.{Bool, true, false, not, _&&_, _||_, false≢true, and-eq-true-iff, and-true, and-assoc, or-false}
 use mathlib.Core.List.{List, [], _∷_, _++_, map}
 use native.Mathlib.Omega.{arith}
@@ -10,10 +10,14 @@ use borrow.Author.Tests.{eq-eqb, ne-eqb, leb-true, ltb-true, not-true, not-false
 use lib.ListN.{length, getD, set, length-set, replicate, length-replicate}
 use lib.Seq.{getD-set-same, getD-set-other}
 use lib.Dec.{eqb}
+use lib.Pow.{pow-pos}
 use native.Mathlib.Decide.{ℕ-discrete}
 use mathlib.Core.Logic.{_⊎_, ⊎-elim}
 use Rattle.encoding.specs.declared.Header.{Header}
 use Rattle.lts.specs.Bounded.{allBelow, concatBelow}
+use Rattle.relation.specs.Matrix.{inRow, rowOf}
+use Rattle.relation.proofs.Bounded.{length-listBelow}
+use Rattle.relation.proofs.Rows.{inRow-of, inRow-zeros, rowOf-cong, row-ext}
 use Rattle.encoding.specs.Encoding.{stateFits, transitionFits, statesFit, transitionsFit, walk, chain, reached, successor, chainsFit, member, distinct}
 use Rattle.encoding.specs.Records.{stateRecord, transitionRecord}
 use Rattle.encoding.specs.Checked.{Recorded, FirstKnown, TransitionKnown}
@@ -141,6 +145,12 @@ module _ (s : List ℕ) (h : Header) (m₀ : List ℕ) where
       → (true ≡ fresh 1 m₀ (reached s h n)) × (true ≡ true → m ≡ marked 1 m₀ (reached s h n))
   reach-done n p l g r = let e : n ≡ p = omega arith in (rw (e, r .tests), λ _. rw e (r .marks))
 
+regroup : (a b c : Bool) → (b || (a || c)) ≡ ((a || b) || c)
+regroup true true c = refl
+regroup true false c = refl
+regroup false true c = refl
+regroup false false c = refl
+
 -- ## Marks from a clean array: no number twice
 abbrev pub Below : ℕ → List ℕ → Type 0
 Below b l = Every (λ x. x < b) l
@@ -204,18 +214,12 @@ module _ (v : ℕ) where
   pub fresh-distinct : (m l : List ℕ) → Below (length m) l → ((i : ℕ) → getD m i 0 ≡ v → ⊥) → fresh v m l ≡ distinct l
   fresh-distinct m l k n = rw (fresh-clear m l k, all-clear m l n, and-true)
 
-  pub marked-at : (m l : List ℕ) (j : ℕ) → Below (length m) l → eqb (getD (marked v m l) j 0) v ≡ (member j l || eqb (getD m j 0) v)
+  marked-at : (m l : List ℕ) (j : ℕ) → Below (length m) l → eqb (getD (marked v m l) j 0) v ≡ (member j l || eqb (getD m j 0) v)
   unfolding marked member
   marked-at m [] j k = refl
   marked-at m (x ∷ l) j k =
       rw (marked-at (set m x v) l j (rw length-set (k .1)), mark-at m x j (k .0), eqb-sym x j)
       (regroup (eqb j x) (member j l) (eqb (getD m j 0) v))
-    where
-      regroup : (a b c : Bool) → (b || (a || c)) ≡ ((a || b) || c)
-      regroup true true c = refl
-      regroup true false c = refl
-      regroup false true c = refl
-      regroup false false c = refl
 
   -- marks stay at most v
   pub marked-bound : (m l : List ℕ) → Below (length m) l → ((i : ℕ) → getD m i 0 ≤ v) → (i : ℕ) → getD (marked v m l) i 0 ≤ v
@@ -285,7 +289,7 @@ module _ (s : List ℕ) (h : Header) (g : Recorded s h) (m : List ℕ) (long : l
       at i = rw (marked-at 1 m _ (i + 1) inside, zeros (i + 1), or-false)
 
 module _ (s : List ℕ) (h : Header) (g : Recorded s h) (p : ℕ) (l : p < h .states) (m : List ℕ) (long : length m ≡ 16640) (old : (i : ℕ) → getD m i 0 ≤ p) where
-  pub stamp-inside : Below (length m) (map (successor s h) (chain s h p))
+  stamp-inside : Below (length m) (map (successor s h) (chain s h p))
   stamp-inside = rw long (successors-below s h g p l)
 
   pub stamp-test : {b : Bool} → b ≡ fresh (p + 1) m (map (successor s h) (chain s h p)) → b ≡ distinct (map (successor s h) (chain s h p))
@@ -298,3 +302,37 @@ module _ (s : List ℕ) (h : Header) (g : Recorded s h) (p : ℕ) (l : p < h .st
         rw (e, marked-length) long,
         λ i. rw e (marked-bound (p + 1) m _ stamp-inside (λ y. let z = old y in omega (arith, z)) i),
       )
+
+-- ## A set along a list: what is left to be put into the row's k words
+pub record Gathering (k : ℕ) (l₀ row l : List ℕ) : Type 0 where
+  pub words : row ≡ rowOf k (inRow row)
+  pub rest : (x : ℕ) → x < k * 64 → member x l₀ ≡ (member x l || inRow row x)
+
+pub gathering-start : (k : ℕ) (l : List ℕ) → Gathering k l (replicate k 0) l
+gathering-start k l =
+    record {
+      words = row-ext k _ (replicate k 0) (zeros-long k) (λ j. rw (zeros-at k j) (pow-pos 64)) (λ x u. refl);
+      rest = λ x u. rw (inRow-zeros k x, or-false);
+    }
+
+module _ {k : ℕ} {l₀ row l : List ℕ} (g : Gathering k l₀ row l) where
+  pub gathering-long : length row ≡ k
+  gathering-long = ap length (g .words) ∙ length-listBelow k _
+
+  pub gathering-more : {row′ : List ℕ} (y : ℕ) (m : List ℕ) → l ≡ y ∷ m → row′ ≡ rowOf (length row) (λ x. eqb x y || inRow row x) → Gathering k l₀ row′ m
+  unfolding member
+  gathering-more {row′} y m e r =
+      record {
+        words = is ∙ rowOf-cong k _ _ (λ x u. sym (at x u));
+        rest = λ x u. g .rest x u ∙ ap (λ z. member x z || inRow row x) e ∙ sym (regroup (eqb x y) (member x m) (inRow row x)) ∙ ap (λ b. member x m || b) (sym (at x u));
+      }
+    where
+      is : row′ ≡ rowOf k (λ x. eqb x y || inRow row x)
+      is = r ∙ ap (λ z. rowOf z (λ x. eqb x y || inRow row x)) gathering-long
+
+      at : (x : ℕ) → x < k * 64 → inRow row′ x ≡ (eqb x y || inRow row x)
+      at x u = ap (λ z. inRow z x) is ∙ inRow-of k _ x u
+
+  pub gathering-end : l ≡ [] → row ≡ rowOf k (λ x. member x l₀)
+  unfolding member
+  gathering-end e = g .words ∙ rowOf-cong k _ _ (λ x u. sym (g .rest x u ∙ ap (λ z. member x z || inRow row x) e))

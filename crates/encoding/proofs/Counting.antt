@@ -16,7 +16,8 @@ use Rattle.encoding.specs.Checked.{ReadableAs, TransitionKnown}
 use Rattle.encoding.specs.Denotation.{ltsOf}
 use Rattle.lts.specs.Bounded.{passing, concatBelow}
 use Rattle.encoding.specs.Normal.{transitionsBy, transitionsOf, transitionsBelow}
-use Rattle.encoding.proofs.Bounded.{all-at, Every, every-map, passing-zero, passing-all, passing-add, passing-cut, passing-or, passing-same}
+use Rattle.lts.proofs.Count.{passing-shorter}
+use Rattle.encoding.proofs.Bounded.{all-at, Every, every-map, passing-zero, passing-all, passing-add, passing-or, passing-same}
 use Rattle.encoding.proofs.Writes.{to-length}
 use Rattle.encoding.proofs.Denotation.{lts-states, lts-actions, transition-member}
 use Rattle.encoding.proofs.Order.{by-none, by-more, by-all}
@@ -71,8 +72,8 @@ module _ (s : List ℕ) (h : Header) (g : ReadableAs s h) where
     row a =
         let b = g .recorded .sized .bounds in
         let cut =
-        passing-cut (h .states) 256 (λ t. is-successor (256 * a + t)) (omega arith)
-        (λ t u v. no-successor (256 * a + t) (λ q. let z = q .target in omega (arith, z))) in
+        ap length (passing-shorter (h .states) 256 (λ t. is-successor (256 * a + t)) (omega arith)
+        (λ t u v. no-successor (256 * a + t) (λ q. let z = q .target in omega (arith, z)))) in
         rw (
           lts-states s h (g .header),
           passing-same (h .states) (ltsOf s .transition p a) (λ t. is-successor (256 * a + t)) (λ t u. transition-member s h g p a t l u),
@@ -91,8 +92,8 @@ module _ (s : List ℕ) (h : Header) (g : ReadableAs s h) where
     transitions-count =
         let b = g .recorded .sized .bounds in
         let cut =
-        passing-cut (256 * (h .actions + 1)) 16640 is-successor (omega arith)
-        (λ x u v. no-successor x (λ q. let z = q .high in omega (arith, z))) in
+        ap length (passing-shorter (256 * (h .actions + 1)) 16640 is-successor (omega arith)
+        (λ x u v. no-successor x (λ q. let z = q .high in omega (arith, z)))) in
         let d = all-at _ (h .states) p (g .successors) l in
         let k = successors-below s h (g .recorded) p l in
         let whole = by-all (ltsOf s) p (h .actions) (sym (lts-actions s h (g .header))) in
@@ -115,7 +116,7 @@ module _ (s : List ℕ) (h : Header) (g : ReadableAs s h) where
       let d = distinct-count 1025 r (on .0) (reached-below s h (g .recorded)) in
       let known = reached-all s h (g .recorded) (λ x. (1 ≤ x) × (x ≤ h .transitions)) (λ j u v. (u, v)) in
       let out = member-keeps (λ x. (1 ≤ x) × (x ≤ h .transitions)) in
-      let cut = passing-cut (1 + h .transitions) 1025 f (omega arith) (λ x u v. out x r known (λ q. let z = q .1 in omega (arith, z))) in
+      let cut = ap length (passing-shorter (1 + h .transitions) 1025 f (omega arith) (λ x u v. out x r known (λ q. let z = q .1 in omega (arith, z)))) in
       let zero-out = passing-zero 1 f (λ x u. out x r known (λ q. let z = q .0 in omega (arith, z))) in
       let full = passing-all (h .transitions) (λ t. f (1 + t)) (λ i u. rw (add-comm 1 i) (all-at _ (h .transitions) i (on .1) u)) in
       let sum = passing-add 1 (h .transitions) f in

@@ -265,7 +265,7 @@ module _ (s : List ℕ) (h : Header) (g : ReadableAs s h) (marks offsets sources
     }
 
 -- all states are done
-pub filled : {s : List ℕ} {h : Header} {v s₀ a₀ t₀ : List ℕ} {p at : ℕ} {marks offsets s₁ a₁ t₁ : List ℕ} → Filling s h v s₀ a₀ t₀ p at marks offsets s₁ a₁ t₁
+pub filled : {s : List ℕ} {h : Header} {s₀ a₀ t₀ : List ℕ} {p at : ℕ} {marks offsets s₁ a₁ t₁ : List ℕ} → Filling s h s₀ a₀ t₀ p at marks offsets s₁ a₁ t₁
     → h .states ≤ p → Loaded s h marks offsets s₁ a₁ t₁
 filled {s} {h} {s₀ = s₀} {a₀} {t₀} {p} {s₁ = s₁} {a₁} {t₁} f l =
     let u = f .up in

@@ -1,10 +1,12 @@
--- What the functions that follow chains say of each other: marks that are set along a list of places.
-use Prim.Native.Nat.{ℕ, _+_, _*_, _≤_}
-use mathlib.Core.Path.{_≡_}
+-- What the functions that follow chains say of each other: marks that are set along a list of places, and sets of places.
+use Prim.Native.Nat.{ℕ, _+_, _*_}
 use mathlib.Core.Bool.{Bool, true, not, _&&_}
-use mathlib.Core.List.{List, [], _∷_}
-use lib.ListN.{length, getD, set}
+use mathlib.Core.List.{List, [], _∷_, map}
+use lib.ListN.{getD, set}
 use lib.Dec.{eqb}
+use Rattle.relation.specs.Matrix.{inRow}
+use Rattle.encoding.specs.declared.Header.{Header}
+use Rattle.encoding.specs.Encoding.{chain, member, successor}
 
 -- whether no place of the list bears the mark v in m, when each is marked in turn
 unfoldable pub fresh : ℕ → List ℕ → List ℕ → Bool
@@ -16,11 +18,10 @@ unfoldable pub marked : ℕ → List ℕ → List ℕ → List ℕ
 marked v m [] = m
 marked v m (x ∷ l) = marked v (set m x v) l
 
--- stamps of the states below p: a state's stamp is one more than its number
-pub record Stamps (m : List ℕ) (p : ℕ) : Type 0 where
-  pub long : length m ≡ 16640
-  pub old : (i : ℕ) → getD m i 0 ≤ p
+-- whether x is the action and target of a record of state p's chain, as one number
+unfoldable pub successorSet : List ℕ → Header → ℕ → ℕ → Bool
+successorSet s h p x = member x (map (successor s h) (chain s h p))
 
--- whether the stamps have action a and target t for the state whose stamp is v
-abbrev pub stamped : ℕ → List ℕ → ℕ → ℕ → Bool
-stamped v m a t = eqb (getD m (256 * a + t) 0) v
+-- whether a row of such numbers has action a and target t
+abbrev pub held : List ℕ → ℕ → ℕ → Bool
+held set a t = inRow set (256 * a + t)

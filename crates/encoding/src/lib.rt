@@ -8,6 +8,7 @@ ghost use lib.Dec.{eqb, ltb};
 ghost use lib.ListN.{length, getD};
 ghost use lib.Seq.{sets};
 ghost use Rattle.lts.specs.Bounded.{allBelow, passing};
+ghost use Rattle.relation.specs.Matrix.{rowOf};
 ghost use Rattle.encoding.specs.Records.{numberAt, two, headerOf, headerBytes, stateRecordAt, stateBytes};
 ghost use Rattle.encoding.specs.Records.{transitionRecordAt, transitionBytes, stateAt, transitionAt, encodingLength};
 ghost use Rattle.encoding.specs.Records.{stateRecord, transitionRecord};
@@ -17,7 +18,7 @@ ghost use Rattle.encoding.specs.Denotation.{ltsOf};
 ghost use Rattle.encoding.specs.Normal.{transitionsTo, transitionsOf, firstIndex, transitionsBytes, normal};
 ghost use Rattle.encoding.specs.Normalise.{normalised};
 ghost use Rattle.encoding.specs.Checked.{Bounds, Sized, Recorded, FirstKnown, TransitionKnown, ReadableAs};
-ghost use Rattle.encoding.specs.Marks.{fresh, marked, Stamps, stamped};
+ghost use Rattle.encoding.specs.Marks.{fresh, marked, successorSet, held};
 ghost use Rattle.encoding.specs.Loaded.{tableTransitions, tableStates, Buffers, Loaded, Wrote};
 
 pub struct Header {
@@ -432,35 +433,51 @@ pub fn read_encoding(s: &[u8]) -> Reading
     Reading::Readable(h)
 }
 
-// Writes the transitions of state p by action a, which the stamps hold, from `from` on; the place after them.
+// The actions and targets of state p's chain, as the members 256 * a + t.
+fn successor_set(s: &[u8], h: Header, p: usize) -> [u64; 260]
+    requires { ⌜ (Recorded (now s) h) × (p < h .states) ⌝ }
+    ensures { λ r. ⌜ r ≡ rowOf 260 (successorSet (now (s .entry)) h p) ⌝ }
+{
+    let mut set = [0u64; 260];
+    let mut j = first_of(s, h, p);
+    let mut left = h.transitions + 1;
+    while left > 0 {
+        if j == 0 {
+            return set;
+        }
+        let r = known_transition(s, h, j);
+        relation::insert(&mut set, 256 * (r.action as usize) + r.target);
+        j = r.next;
+        left -= 1;
+    }
+    set
+}
+
+// Writes the transitions of state p by action a, which the set holds, from `from` on; the place after them.
 fn load_action(
     p: usize,
     a: usize,
     n: usize,
-    stamps: &[u16; 16640],
+    set: &[u64; 260],
     from: usize,
     sources: &mut [u16; 1024],
     actions: &mut [u8; 1024],
     targets: &mut [u16; 1024],
 ) -> usize
     requires { ⌜ (p < 256) × (a ≤ 64) × (n ≤ 256) ⌝ }
-    requires { ⌜ from + length (passing n (stamped (p + 1) (now stamps) a)) ≤ 1024 ⌝ }
-    ensures { λ r. ⌜ r ≡ from + length (passing n (stamped (p + 1) (now (stamps .entry)) a)) ⌝ }
-    ensures { λ r. ⌜ Wrote (transitionsTo p a (passing n (stamped (p + 1) (now (stamps .entry)) a))) from (now (sources .entry)) (now (actions .entry)) (now (targets .entry)) (now (sources .exit)) (now (actions .exit)) (now (targets .exit)) ⌝ }
+    requires { ⌜ from + length (passing n (held (now set) a)) ≤ 1024 ⌝ }
+    ensures { λ r. ⌜ r ≡ from + length (passing n (held (now (set .entry)) a)) ⌝ }
+    ensures { λ r. ⌜ Wrote (transitionsTo p a (passing n (held (now (set .entry)) a))) from (now (sources .entry)) (now (actions .entry)) (now (targets .entry)) (now (sources .exit)) (now (actions .exit)) (now (targets .exit)) ⌝ }
 {
-    let stamp = (p + 1) as u16;
+    let row = relation::action_part(set, a);
     let mut at = from;
-    let mut t = 0;
+    let mut t = relation::next_state(row, 4, 0);
     while t < n {
-        if stamps[256 * a + t] == stamp {
-            sources[at] = p as u16;
-            actions[at] = a as u8;
-            targets[at] = t as u16;
-            at += 1;
-            t += 1;
-        } else {
-            t += 1;
-        }
+        sources[at] = p as u16;
+        actions[at] = a as u8;
+        targets[at] = t as u16;
+        at += 1;
+        t = relation::next_state(row, 4, t + 1);
     }
     at
 }
@@ -470,25 +487,23 @@ fn load_state(
     s: &[u8],
     h: Header,
     p: usize,
-    stamps: &mut [u16; 16640],
     from: usize,
     sources: &mut [u16; 1024],
     actions: &mut [u8; 1024],
     targets: &mut [u16; 1024],
 ) -> usize
-    requires { ⌜ (ReadableAs (now s) h) × (p < h .states) × (Stamps (now stamps) p) ⌝ }
+    requires { ⌜ (ReadableAs (now s) h) × (p < h .states) ⌝ }
     requires { ⌜ from + length (transitionsOf (ltsOf (now s)) p) ≤ 1024 ⌝ }
     ensures { λ r. ⌜ r ≡ from + length (transitionsOf (ltsOf (now (s .entry))) p) ⌝ }
     ensures { λ r. ⌜ Wrote (transitionsOf (ltsOf (now (s .entry))) p) from (now (sources .entry)) (now (actions .entry)) (now (targets .entry)) (now (sources .exit)) (now (actions .exit)) (now (targets .exit)) ⌝ }
-    ensures { λ r. ⌜ Stamps (now (stamps .exit)) (p + 1) ⌝ }
 {
-    stamp_chain(s, h, p, stamps);
+    let set = successor_set(s, h, p);
     let n = h.states;
     let m = h.actions;
     let mut at = from;
     let mut a = 0;
     while a < m {
-        at = load_action(p, a + 1, n, stamps, at, sources, actions, targets);
+        at = load_action(p, a + 1, n, &set, at, sources, actions, targets);
         a += 1;
     }
     at
@@ -508,14 +523,13 @@ pub fn load(
     requires { ⌜ (ReadableAs (now s) h) × (Buffers (now marks) (now offsets) (now sources) (now actions) (now targets)) ⌝ }
     ensures { λ r. ⌜ Loaded (now (s .entry)) h (now (marks .exit)) (now (offsets .exit)) (now (sources .exit)) (now (actions .exit)) (now (targets .exit)) ⌝ }
 {
-    let mut stamps = [0u16; 16640];
     let n = h.states;
     let mut at = 0;
     let mut p = 0;
     offsets[0] = 0;
     while p < n {
         marks[p] = state_record(s, h, p).mark;
-        at = load_state(s, h, p, &mut stamps, at, sources, actions, targets);
+        at = load_state(s, h, p, at, sources, actions, targets);
         p += 1;
         offsets[p] = at as u16;
     }

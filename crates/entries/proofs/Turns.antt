@@ -1,6 +1,7 @@
 -- What the loop that takes entries one by one knows before each turn. Assumes nothing.
 use Prim.Native.Nat.{ℕ, _+_, _≤_, _<_, zero-le}
 use mathlib.Core.Path.{_≡_, sym, ap, subst, _∙_}
+use native.Mathlib.Nat.{le-of-lt}
 use native.Mathlib.Numerals.{add-one, add-one-le}
 use mathlib.Core.List.{List, []}
 use lib.ListN.{length, getD, take}
@@ -10,6 +11,17 @@ use Rattle.strategy_parts.specs.Parts.{Taken, TakesEntry}
 use Rattle.strategy_parts.proofs.Answers.{taken-none}
 use Rattle.entries.specs.Entries.{blank}
 use Rattle.entries.proofs.LocalArray.{repeated, length-repeated}
+
+module _ (s preorder : List ℕ) (es : List Entry) (at : ℕ) (work : List ℕ) (known : Taken s preorder (take at es) work) where
+  -- one entry more is taken
+  pub taken-next : at < length es → (next : List ℕ) → TakesEntry s preorder work at (getD es at blank) next → Taken s preorder (take (at + 1) es) next
+  taken-next less next takes =
+      subst (λ (l : List Entry). Taken s preorder l next) (sym (ap (λ (k : ℕ). take k es) (add-one at) ∙ take-suc es at blank less))
+      (takes (take at es) (length-take-le at es (le-of-lt less)) known)
+
+  -- at the end all are taken
+  pub taken-all : at ≡ length es → Taken s preorder es work
+  taken-all e = subst (λ (l : List Entry). Taken s preorder l work) (ap (λ (k : ℕ). take k es) e ∙ take-length es) known
 
 -- the first `at` entries are taken
 pub record Turn (s preorder : List ℕ) (es : List Entry) : Type 0 where
@@ -33,11 +45,8 @@ module _ (s preorder : List ℕ) (es : List Entry) where
     within = add-one-le less;
     work = work;
     long = long ∙ t .long;
-    known =
-        subst (λ (l : List Entry). Taken s preorder l work) (sym (ap (λ (k : ℕ). take k es) (add-one (t .at)) ∙ take-suc es (t .at) blank less))
-        (takes (take (t .at) es) (length-take-le (t .at) es (t .within)) (t .known));
+    known = taken-next s preorder es (t .at) (t .work) (t .known) less work takes;
   }
 
-  -- at the end all are taken
   pub last-turn : (t : Turn s preorder es) → t .at ≡ length es → Taken s preorder es (t .work)
-  last-turn t e = subst (λ (l : List Entry). Taken s preorder l (t .work)) (ap (λ (k : ℕ). take k es) e ∙ take-length es) (t .known)
+  last-turn t e = taken-all s preorder es (t .at) (t .work) (t .known) e

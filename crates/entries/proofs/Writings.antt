@@ -7,7 +7,7 @@ use mathlib.Core.Bool.{Bool, true, false, cond, _&&_}
 use mathlib.Core.List.{List, [], _∷_, _++_, append-assoc}
 use lib.Dec.{T, ltb, leb}
 use lib.ListN.{length, take, drop, length-append}
-use lib.Seq.{take-append-seam}
+use lib.Seq.{take-at}
 use borrow.Author.Tests.{leb-true, leb-false, le-leb}
 use Rattle.lts.specs.Bounded.{sumBelow, countBelow, lowest}
 use Rattle.lts.specs.System.{Rel, Lts, WellFormed}
@@ -52,10 +52,18 @@ length-most L preorder p q hp hq h =
 
 -- ---- entries as numbers and back
 
-pub entries-append : (es : List Entry) (xs : List ℕ) → entriesOf (numbersOf es ++ xs) ≡ es ++ entriesOf xs
-unfolding entriesOf numbersOf
-entries-append [] xs = refl
-entries-append (e ∷ es) xs = ap (λ (l : List Entry). e ∷ l) (entries-append es xs)
+-- the entries of numbers whose first come from elsewhere
+entries-front : (c : ℕ) (xs ys : List ℕ) → 4 * c ≤ length xs → entriesOf (take (4 * c) xs ++ ys) ≡ take c (entriesOf xs) ++ entriesOf ys
+unfolding entriesOf
+entries-front zero xs ys h = refl
+entries-front (suc c) [] ys h = absurd (omega arith)
+entries-front (suc c) (p ∷ []) ys h = absurd (omega arith)
+entries-front (suc c) (p ∷ q ∷ []) ys h = absurd (omega arith)
+entries-front (suc c) (p ∷ q ∷ a ∷ []) ys h = absurd (omega arith)
+entries-front (suc c) (p ∷ q ∷ a ∷ t ∷ xs) ys h =
+    let e : 4 * suc c ≡ suc (suc (suc (suc (4 * c)))) = omega arith in
+    ap (λ (k : ℕ). entriesOf (take k (p ∷ q ∷ a ∷ t ∷ xs) ++ ys)) e
+    ∙ ap (λ (l : List Entry). record { p = p; q = q; a = a; t = t } ∷ l) (entries-front c xs ys (omega arith))
 
 drop-numbers : (k : ℕ) (es : List Entry) → drop (4 * k) (numbersOf es) ≡ numbersOf (drop k es)
 unfolding numbersOf
@@ -150,33 +158,31 @@ put-none : (es : List Entry) (d : List ℕ) → leb (length es) (length d / 4) �
 unfolding unless
 put-none es d e = rw e
 
-plan-room : (room : ℕ) (plan : List Entry) → length plan ≡ room → length (numbersOf plan) / 4 ≡ room
-plan-room room plan l = omega (arith, length-numbers plan, l)
+pub plan-room : (plan : List Entry) → length (numbersOf plan) / 4 ≡ length plan
+plan-room plan = omega (arith, length-numbers plan)
 
 module _ (s preorder : List ℕ) (p q room : ℕ) (promised : Promised s preorder) (answer : Written) (numbers : List ℕ) where
-  refused-within : (r : Refusal) → answer ≡ Refused r → ((plan : List Entry) → length plan ≡ room → writeStrategy s preorder p q (numbersOf plan) ≡ refuse (numbersOf plan) r)
-      → WrittenWithin s preorder p q room answer numbers
+  refused-within : (r : Refusal) → answer ≡ Refused r → ((d : List ℕ) → length d / 4 ≡ room → writeStrategy s preorder p q d ≡ refuse d r) → WrittenWithin s preorder p q room answer numbers
   unfolding entryCount refuse
   refused-within r e is = subst⁻¹ (λ (a : Written). WrittenWithin s preorder p q room a numbers) e (record {
-    answered = λ plan l. sym (ap (λ (o : Outcome). o .answer) (is plan l));
-    carried = λ plan l. sym (ap (λ (o : Outcome). entriesOf (o .numbers)) (is plan l) ∙ entries-numbers plan);
+    answered = λ d l. sym (ap (λ (o : Outcome). o .answer) (is d l));
+    carried = λ d l. sym (ap (λ (o : Outcome). o .numbers) (is d l));
     fits = zero-le;
     whole = omega arith;
     promised = promised;
   })
 
   put-within : (es : List Entry) (rest : List ℕ) → answer ≡ Entries (length es) → numbers ≡ numbersOf es ++ rest → length es ≤ room
-      → ((plan : List Entry) → length plan ≡ room → writeStrategy s preorder p q (numbersOf plan) ≡ record { answer = Entries (length es); numbers = numbersOf es ++ drop (4 * length es) (numbersOf plan) })
+      → ((d : List ℕ) → length d / 4 ≡ room → writeStrategy s preorder p q d ≡ record { answer = Entries (length es); numbers = numbersOf es ++ drop (4 * length es) d })
       → WrittenWithin s preorder p q room answer numbers
   unfolding entryCount
-  put-within es rest e d h is = subst⁻¹ (λ (a : Written). WrittenWithin s preorder p q room a numbers) e (record {
-    answered = λ plan l. sym (ap (λ (o : Outcome). o .answer) (is plan l));
-    carried = λ plan l.
-        ap (λ (l : List Entry). l ++ drop (length es) plan) (ap (take (length es)) (ap entriesOf d ∙ entries-append es rest) ∙ take-append-seam es (entriesOf rest))
-        ∙ sym (ap (λ (o : Outcome). entriesOf (o .numbers)) (is plan l) ∙ entries-append es (drop (4 * length es) (numbersOf plan))
-        ∙ ap (λ (l : List Entry). es ++ l) (ap entriesOf (drop-numbers (length es) plan) ∙ entries-numbers (drop (length es) plan)));
+  put-within es rest e n h is = subst⁻¹ (λ (a : Written). WrittenWithin s preorder p q room a numbers) e (record {
+    answered = λ d l. sym (ap (λ (o : Outcome). o .answer) (is d l));
+    carried = λ d l.
+        ap (λ (l : List ℕ). l ++ drop (4 * length es) d) (ap (take (4 * length es)) n ∙ take-at (numbersOf es) rest (4 * length es) (length-numbers es))
+        ∙ sym (ap (λ (o : Outcome). o .numbers) (is d l));
     fits = h;
-    whole = omega (arith, ap length d, length-append (numbersOf es) rest, length-numbers es);
+    whole = omega (arith, ap length n, length-append (numbersOf es) rest, length-numbers es);
     promised = promised;
   })
 
@@ -192,11 +198,20 @@ module _ (s preorder : List ℕ) (p q room : ℕ) (promised : Promised s preorde
           put-within es (drop (4 * length es) d ++ rest) (a ∙ ap (λ (o : Outcome). o .answer) here)
           (whole ∙ ap (λ (l : List ℕ). l ++ rest) (b ∙ ap (λ (o : Outcome). o .numbers) here) ∙ append-assoc (numbersOf es) (drop (4 * length es) d) rest)
           (leb-true (length es) room t)
-          (λ plan l. is (numbersOf plan) ∙ put-room es (numbersOf plan) (ap (leb (length es)) (plan-room room plan l) ∙ t))
+          (λ d l. is d ∙ put-room es d (ap (leb (length es)) l ∙ t))
       put es few is false t =
           refused-within Buffer (a ∙ ap (λ (o : Outcome). o .answer) (is d ∙ put-none es d (ap (λ (k : ℕ). leb (length es) (k / 4)) long ∙ count-test room (length es) few ∙ t)))
-          (λ plan l. is (numbersOf plan) ∙ put-none es (numbersOf plan) (ap (leb (length es)) (plan-room room plan l) ∙ t))
+          (λ d l. is d ∙ put-none es d (ap (leb (length es)) l ∙ t))
 
       go : Writing s preorder p q → WrittenWithin s preorder p q room answer numbers
-      go (refuses r is) = refused-within r (a ∙ ap (λ (o : Outcome). o .answer) (is d)) (λ plan l. is (numbersOf plan))
+      go (refuses r is) = refused-within r (a ∙ ap (λ (o : Outcome). o .answer) (is d)) (λ d l. is d)
       go (puts es few is) = put es few is (leb (length es) room) refl
+
+-- what is written into the entries of a plan
+pub carried-entries : {s preorder : List ℕ} {p q : ℕ} {answer : Written} {numbers : List ℕ} (plan : List Entry) → WrittenWithin s preorder p q (length plan) answer numbers
+    → take (entryCount answer) (entriesOf numbers) ++ drop (entryCount answer) plan ≡ entriesOf (writeStrategy s preorder p q (numbersOf plan) .numbers)
+carried-entries {s} {preorder} {p} {q} {answer} {numbers} plan w =
+    let c = entryCount answer in
+    sym (ap (λ (l : List Entry). take c (entriesOf numbers) ++ l) (ap entriesOf (drop-numbers c plan) ∙ entries-numbers (drop c plan)))
+    ∙ sym (entries-front c numbers (drop (4 * c) (numbersOf plan)) (w .whole))
+    ∙ ap entriesOf (w .carried (numbersOf plan) (plan-room plan))

@@ -36,7 +36,7 @@ fn copy_in(plan: &mut [lts::Entry], c: usize, numbers: &[u16])
 }
 
 // How many entries an answer counts: none where it is a refusal.
-fn entry_count(answer: strategy::Written) -> usize
+pub fn entry_count(answer: strategy::Written) -> usize
     ensures { λ r. ⌜ r ≡ entryCount answer ⌝ }
 {
     match answer {
@@ -53,7 +53,7 @@ fn number_count(room: usize) -> usize
 }
 
 // Writes into the first numbers what a list of `room` entries has room for.
-fn write_within(
+pub fn write_within(
     s: &[u8],
     preorder: &[u64],
     p: usize,

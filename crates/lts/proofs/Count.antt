@@ -1,11 +1,11 @@
 -- Counts, lists of passing numbers and the lowest passing number.
 use Prim.Native.Nat.{ℕ, zero, suc, _+_, _*_, _≤_, _<_, zero-le, suc-le-suc}
-use native.Mathlib.Nat.{le-refl, le-trans, le-step, lt-suc-self, not-suc-le-zero, le-of-suc-le-suc, zero-lt-suc, add-le-add}
+use native.Mathlib.Nat.{eq-or-lt-of-le, le-refl, le-trans, le-step, lt-suc-self, not-suc-le-zero, le-of-suc-le-suc, zero-lt-suc, add-le-add}
 use native.Mathlib.Omega.{arith}
 use mathlib.Core.Path.{_≡_, refl, sym, _∙_, ap, subst, fun-ext}
-use mathlib.Core.Logic.{_⊎_, inl, inr}
+use mathlib.Core.Logic.{_⊎_, inl, inr, ⊎-elim}
 use mathlib.Core.Bool.{Bool, true, false, cond, _||_}
-use mathlib.Core.List.{List, [], _∷_, _++_}
+use mathlib.Core.List.{List, [], _∷_, _++_, append-nil}
 use lib.Dec.{T}
 use lib.ListN.{length, getD, length-append}
 use Rattle.lts.specs.Bounded.{anyBelow, sumBelow, countBelow, passing, concatBelow, lowest}
@@ -154,3 +154,13 @@ lowest-least (suc n) f (suc i) t = go (f zero) (lowest-least n (λ i. f (suc i))
     go : (b : Bool) → lowest n (λ i. f (suc i)) ≤ i → cond b zero (suc (lowest n (λ i. f (suc i)))) ≤ suc i
     go true l = zero-le
     go false l = suc-le-suc l
+
+-- from n on nothing passes
+pub passing-shorter : (n m : ℕ) (f : ℕ → Bool) → n ≤ m → ((i : ℕ) → n ≤ i → i < m → f i ≡ false) → passing m f ≡ passing n f
+unfolding passing
+passing-shorter n zero f h none = let e : 0 ≡ n = omega arith in ap (λ (k : ℕ). passing k f) e
+passing-shorter n (suc m) f h none =
+    ⊎-elim (λ (e : n ≡ suc m). ap (λ (k : ℕ). passing k f) (sym e))
+    (λ (l : n < suc m). ap (λ (b : Bool). passing m f ++ cond b (m ∷ []) []) (none m (le-of-suc-le-suc l) (le-refl (suc m))) ∙ append-nil (passing m f)
+    ∙ passing-shorter n m f (le-of-suc-le-suc l) (λ i a b. none i a (le-step b)))
+    (eq-or-lt-of-le h)

@@ -1,25 +1,16 @@
 -- Blocks that are written a block at a time. Assumes nothing.
-use mathlib.Core.Path.{_≡_, refl, sym, ap, ap₂, _∙_}
-use mathlib.Core.Bool.{Bool, true, false, cond, _||_}
+use mathlib.Core.Path.{_≡_, refl, sym, ap, _∙_}
+use mathlib.Core.Bool.{Bool, true, false, cond, _||_, or-true, or-false}
 use mathlib.Core.List.{List, _++_}
 use Prim.Native.Nat.{ℕ, _*_, _≤_, _<_}
 use native.Mathlib.Omega.{arith}
-use lib.ListN.{length, drop, length-append, length-drop}
+use lib.ListN.{length, drop}
 use Rattle.lts.specs.System.{Set, Rel}
 use Rattle.lts.specs.Refinement.{block}
-use Rattle.relation.specs.Matrix.{inRow, rowOf, wordAt, statesBelow, relationOf, matrixOf}
-use Rattle.relation.proofs.Bounded.{length-listBelow}
-use Rattle.relation.proofs.Rows.{inRow-of, inRow-written, inRow-zeros}
-use Rattle.relation.proofs.Matrices.{states-in, states-out, relation-of, matrixOf-cong}
+use Rattle.relation.specs.Matrix.{inRow, rowOf, statesBelow, relationOf, matrixOf}
+use Rattle.relation.proofs.Rows.{inRow-of, inRow-written, length-written}
+use Rattle.relation.proofs.Matrices.{states-in, relation-of, matrixOf-cong}
 use Rattle.partition.specs.Pending.{Classes, blocksAt, Grown}
-
-or-false : (b : Bool) → b || false ≡ b
-or-false true = refl
-or-false false = refl
-
-or-true : (b : Bool) → b || true ≡ true
-or-true true = refl
-or-true false = refl
 
 -- no row is written, and every row
 pub blocks-none : (n : ℕ) (K : Rel) (X : Set) → ((g : ℕ) → X g ≡ false) → matrixOf n K ≡ matrixOf n (blocksAt X K)
@@ -29,9 +20,6 @@ blocks-none n K X none = matrixOf-cong n _ _ (λ g h _ _. sym (ap (λ (b : Bool)
 pub blocks-all : (n : ℕ) (K : Rel) (X : Set) → ((g : ℕ) → g < n → X g ≡ true) → matrixOf n (blocksAt X K) ≡ matrixOf n (block K)
 unfolding blocksAt
 blocks-all n K X all = matrixOf-cong n _ _ (λ g h l _. ap (λ (b : Bool). cond b (block K g h) (K g h)) (all g l))
-
-pub members-out : (n p : ℕ) (K : Rel) (members : List ℕ) → members ≡ rowOf 4 (statesBelow n (block K p)) → (q : ℕ) → n ≤ q → q < 256 → inRow members q ≡ false
-members-out n p K members are q l h = ap (λ (l : List ℕ). inRow l q) are ∙ inRow-of 4 (statesBelow n (block K p)) q h ∙ states-out n (block K p) q l
 
 -- the block of p is written
 module _ (n p : ℕ) (K : Rel) (classes : Classes n K) (written members written′ : List ℕ) (small : n ≤ 256) (hp : p < n) (long : length written ≡ 4)
@@ -47,9 +35,7 @@ module _ (n p : ℕ) (K : Rel) (classes : Classes n K) (written members written�
 
   pub grown : Grown n p written written′
   grown = record {
-    long =
-        let both = ap length union ∙ length-append (rowOf 4 (λ q. inRow written q || inRow members q)) (drop 4 written) in
-        omega (arith, both, length-listBelow 4 (wordAt (λ q. inRow written q || inRow members q)), length-drop 4 written, long);
+    long = ap length union ∙ length-written 4 (λ q. inRow written q || inRow members q) written (omega (arith, long)) ∙ long;
     added = in-written p hp ∙ ap (λ (b : Bool). inRow written p || b) (in-members p hp ∙ classes .own p hp) ∙ or-true (inRow written p);
     kept = λ g h e. in-written g h ∙ ap (λ (b : Bool). b || inRow members g) e;
   }

@@ -3,7 +3,7 @@ use mathlib.Core.Path.{_≡_, refl, sym, ap, ap₂, _∙_}
 use mathlib.Core.Bool.{Bool, true, false, cond}
 use mathlib.Core.List.{List, [], _∷_, _++_, append-assoc, append-nil}
 use mathlib.Core.Logic.{⊎-elim}
-use Prim.Native.Nat.{ℕ, zero, suc, _+_, _≤_, _<_, zero-le}
+use Prim.Native.Nat.{ℕ, zero, suc, _+_, _≤_, _<_}
 use native.Mathlib.Nat.{le-refl, le-step, le-of-suc-le-suc, zero-lt-suc, add-zero, eq-or-lt-of-le}
 use native.Mathlib.Numerals.{add-one}
 use native.Mathlib.Omega.{arith}
@@ -11,6 +11,7 @@ use lib.Dec.{eqb}
 use lib.ListN.{length, getD, length-append, List·getD-append}
 use lib.Seq.{getD-append-add}
 use borrow.Author.Tests.{ne-eqb}
+use Rattle.lts.proofs.Count.{passing-shorter}
 use Rattle.lts.specs.Bounded.{sumBelow, countBelow, passing, lowest}
 use Rattle.relation.specs.Matrix.{Next}
 use Rattle.relation.proofs.Bounded.{clash, lt-or-ge, lowestStep, lowest-le, lowest-at, lowest-before, lowest-shorter}
@@ -28,15 +29,6 @@ pub passing-take : (f : ℕ → Bool) (p : ℕ) → f p ≡ true → passing (p 
 unfolding passing
 passing-take f p e = rw (add-one, e)
 
-pub passing-le : (n : ℕ) (f : ℕ → Bool) → length (passing n f) ≤ n
-unfolding passing
-passing-le zero f = zero-le
-passing-le (suc n) f = omega (arith, length-append (passing n f) (cond (f n) (n ∷ []) []), passing-le n f, one (f n))
-  where
-    one : (b : Bool) → length (cond b (n ∷ []) []) ≤ 1
-    one true = le-refl 1
-    one false = zero-le
-
 -- they are as many as are counted
 pub length-passing : (n : ℕ) (f : ℕ → Bool) → length (passing n f) ≡ countBelow n f
 unfolding passing countBelow sumBelow
@@ -46,16 +38,6 @@ length-passing (suc n) f = length-append (passing n f) (cond (f n) (n ∷ []) []
     one : (b : Bool) → length (cond b (n ∷ []) []) ≡ cond b 1 0
     one true = refl
     one false = refl
-
--- from n on nothing passes
-pub passing-shorter : (n m : ℕ) (f : ℕ → Bool) → n ≤ m → ((i : ℕ) → n ≤ i → i < m → f i ≡ false) → passing m f ≡ passing n f
-unfolding passing
-passing-shorter n zero f h none = let e : 0 ≡ n = omega arith in ap (λ (k : ℕ). passing k f) e
-passing-shorter n (suc m) f h none =
-    ⊎-elim (λ (e : n ≡ suc m). ap (λ (k : ℕ). passing k f) (sym e))
-    (λ (l : n < suc m). ap (λ (b : Bool). passing m f ++ cond b (m ∷ []) []) (none m (le-of-suc-le-suc l) (le-refl (suc m))) ∙ append-nil (passing m f)
-    ∙ passing-shorter n m f (le-of-suc-le-suc l) (λ i a b. none i a (le-step b)))
-    (eq-or-lt-of-le h)
 
 -- a lower bound's list stands first in a higher one's
 pub passing-prefix : (n m : ℕ) (f : ℕ → Bool) → n ≤ m → (rest : List ℕ) × (passing m f ≡ passing n f ++ rest)

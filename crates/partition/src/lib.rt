@@ -1,12 +1,13 @@
 // The blocks of a relation as a bit matrix (row p is the block of p), their representatives, and the pending ones (document 01, "Turns").
 ghost use mathlib.Core.Path.{_≡_};
-ghost use mathlib.Core.Bool.{cond, _&&_};
-ghost use Prim.Native.Nat.{_*_, _%_, _<_, _≤_};
+ghost use mathlib.Core.Bool.{false, cond, _&&_};
+ghost use Prim.Native.Nat.{ℕ, _*_, _%_, _<_, _≤_};
 ghost use lib.Dec.{eqb, ltb};
 ghost use lib.ListN.{length, getD};
 ghost use Rattle.lts.specs.Bounded.{countBelow, passing, listBelow, lowest};
 ghost use Rattle.lts.specs.Refinement.{block};
 ghost use Rattle.relation.specs.Matrix.{inRow, rowOf, rowWords, statesBelow, relationOf, matrixOf, Matrix, Row};
+ghost use Rattle.splitting.specs.Split.{Equivalence};
 ghost use Rattle.partition.specs.Pending.{pendingIn, Reflexive, Classes, blocksAt, Grown};
 
 // The block of p: the states that p is related to and that are related to p.
@@ -56,25 +57,8 @@ pub fn write_blocks(related: &[u64], n: usize, blocks: &mut [u64])
     }
 }
 
-// Whether p is the representative of a pending block.
-fn is_pending(related: &[u64], viewed: &[u64], blocks: &[u64], n: usize, p: usize) -> bool
-    requires { ⌜ (n ≤ 256) × Matrix n (now related) × Matrix n (now viewed) × Matrix n (now blocks) × (p < n) ⌝ }
-    ensures { λ r. ⌜ r ≡ pendingIn n (relationOf n (now (related .entry))) (relationOf n (now (viewed .entry))) (relationOf n (now (blocks .entry))) p ⌝ }
-{
-    let w = (n + 63) / 64;
-    if !relation::row_differs(
-        relation::row_at(viewed, n, p),
-        relation::row_at(related, n, p),
-        w,
-    ) {
-        return false;
-    }
-    let low = relation::lowest_state(relation::row_at(blocks, n, p), w);
-    low == p
-}
-
-// Brings the set of pending representatives up to date at p.
-fn update_at(
+// Brings the set of pending representatives up to date at the block of p.
+fn update_block(
     related: &[u64],
     viewed: &[u64],
     blocks: &[u64],
@@ -82,17 +66,23 @@ fn update_at(
     p: usize,
     pending: &mut [u64],
 )
-    requires { ⌜ (n ≤ 256) × Matrix n (now related) × Matrix n (now viewed) × Matrix n (now blocks) × (p < n) × (length (now pending) ≡ 4) ⌝ }
-    ensures { λ _. ⌜ now (pending .exit) ≡ rowOf 4 (λ x. cond (eqb x p) (pendingIn n (relationOf n (now (related .entry))) (relationOf n (now (viewed .entry))) (relationOf n (now (blocks .entry))) p) (inRow (now (pending .entry)) x)) ⌝ }
+    requires { ⌜ (n ≤ 256) × Matrix n (now related) × Matrix n (now viewed) × Matrix n (now blocks) × Equivalence n (relationOf n (now blocks)) × (p < n) × (length (now pending) ≡ 4) ⌝ }
+    ensures { λ _. ⌜ now (pending .exit) ≡ rowOf 4 (λ x. cond (ltb x n && relationOf n (now (blocks .entry)) p x) (pendingIn n (relationOf n (now (related .entry))) (relationOf n (now (viewed .entry))) (relationOf n (now (blocks .entry))) x) (inRow (now (pending .entry)) x)) ⌝ }
 {
-    if is_pending(related, viewed, blocks, n, p) {
-        relation::insert(pending, p);
-    } else {
-        relation::remove(pending, p);
+    let w = (n + 63) / 64;
+    let row = relation::row_at(blocks, n, p);
+    let low = relation::lowest_state(row, w);
+    relation::row_minus(pending, row, w);
+    if relation::row_differs(
+        relation::row_at(viewed, n, low),
+        relation::row_at(related, n, low),
+        w,
+    ) {
+        relation::insert(pending, low);
     }
 }
 
-// Brings the set of pending representatives up to date at the states of `touched`.
+// Brings the set of pending representatives up to date, a block at a time: it is right at the states that are not in `touched`.
 pub fn update_pending(
     related: &[u64],
     viewed: &[u64],
@@ -101,13 +91,18 @@ pub fn update_pending(
     touched: &[u64; 4],
     pending: &mut [u64],
 )
-    requires { ⌜ (n ≤ 256) × Matrix n (now related) × Matrix n (now viewed) × Matrix n (now blocks) × (length (now pending) ≡ 4) ⌝ }
-    ensures { λ _. ⌜ now (pending .exit) ≡ rowOf 4 (λ p. cond (ltb p n && inRow (now (touched .entry)) p) (pendingIn n (relationOf n (now (related .entry))) (relationOf n (now (viewed .entry))) (relationOf n (now (blocks .entry))) p) (inRow (now (pending .entry)) p)) ⌝ }
+    requires { ⌜ (n ≤ 256) × Matrix n (now related) × Matrix n (now viewed) × Matrix n (now blocks) × Equivalence n (relationOf n (now blocks)) × (length (now pending) ≡ 4) × ((q : ℕ) → n ≤ q → q < 256 → inRow (now pending) q ≡ false) ⌝ }
+    requires { ⌜ ((p : ℕ) → p < n → inRow (now touched) p ≡ false → inRow (now pending) p ≡ pendingIn n (relationOf n (now related)) (relationOf n (now viewed)) (relationOf n (now blocks)) p) ⌝ }
+    ensures { λ _. ⌜ now (pending .exit) ≡ rowOf 4 (statesBelow n (pendingIn n (relationOf n (now (related .entry))) (relationOf n (now (viewed .entry))) (relationOf n (now (blocks .entry))))) ⌝ }
 {
-    let mut p = relation::next_state(touched, 4, 0);
+    let w = (n + 63) / 64;
+    let mut left = [0u64; 4];
+    relation::row_copy(&mut left, touched, 4);
+    let mut p = relation::next_state(&left, 4, 0);
     while p < n {
-        update_at(related, viewed, blocks, n, p, pending);
-        p = relation::next_state(touched, 4, p + 1);
+        update_block(related, viewed, blocks, n, p, pending);
+        relation::row_minus(&mut left, relation::row_at(blocks, n, p), w);
+        p = relation::next_state(&left, 4, p + 1);
     }
 }
 

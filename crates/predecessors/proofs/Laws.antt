@@ -1,14 +1,14 @@
 -- Laws of sets of states by action, and of the beginning of a run over a transition table. Assumes nothing.
-use mathlib.Core.Path.{_≡_, refl, sym, ap, ap₂, _∙_, subst⁻¹}
-use mathlib.Core.Bool.{Bool, true, false, cond, not, _&&_, _||_}
+use mathlib.Core.Path.{_≡_, refl, sym, ap, ap₂, _∙_, subst, subst⁻¹}
+use mathlib.Core.Bool.{Bool, true, false, cond, not, _&&_, _||_, and-true, and-false, and-assoc}
 use mathlib.Core.List.{List, _++_, append-nil}
+use mathlib.Core.Logic.{⊎-elim}
 use Prim.Native.Nat.{ℕ, zero, suc, _+_, _*_, _/_, _%_, _≤_, _<_}
-use native.Mathlib.Nat.{mod-lt}
+use native.Mathlib.Nat.{not-suc-le-zero}
 use native.Mathlib.Omega.{arith}
 use lib.Dec.{T, eqb, eqb→eq}
-use lib.ListN.{length, getD, drop, replicate, length-replicate, getD-replicate, length-drop, drop-of-length-le}
-use lib.Pow.{pow-pos}
-use lib.Seq.{getD-drop}
+use lib.ListN.{length, getD, set, drop, replicate, length-drop, drop-of-length-le}
+use lib.Seq.{getD-drop, getD-set-same, getD-set-other}
 use borrow.Author.Tests.{eq-eqb, ne-eqb, eqb-true}
 use Rattle.lts.specs.Bounded.{_⇒_, anyBelow, allBelow}
 use Rattle.lts.specs.System.{Set, Rel, into}
@@ -18,11 +18,10 @@ use Rattle.lts.proofs.Bounded.{and-iff, any-iff, test-ext}
 use Rattle.lts.proofs.System.{into-to, into-from}
 use Rattle.lts.proofs.Table.{table-formed}
 use Rattle.relation.specs.Matrix.{bit, inRow, rowOf, relationOf, matrixOf, setRow}
-use Rattle.relation.proofs.Bounded.{any-no, any-cong, all-cong, clash, length-listBelow}
-use Rattle.relation.proofs.Bits.{bit-of-zero, bit-not}
-use Rattle.relation.proofs.Rows.{inRow-ones, getD-zeros, inRow-of, rowOf-cong, row-ext}
+use Rattle.relation.proofs.Bounded.{lt-or-ge, any-no, any-cong, all-cong, clash}
+use Rattle.relation.proofs.Rows.{inRow-zeros, inRow-ones, inRow-of, rowOf-cong, part-in}
 use Rattle.relation.proofs.Matrices.{matrixOf-cong, relation-of}
-use Rattle.predecessors.specs.Sources.{Numbers, sourcesInto, actionSet, removeSet}
+use Rattle.predecessors.specs.Sources.{Numbers, sourcesInto, Keyed, keysInto, Fits, actionSet}
 use Rattle.predecessors.proofs.Tables.{all-more, equal, entry-leads, entry-of, initial-at, has-actions}
 
 -- ---- rows of words: belongs to relation
@@ -31,65 +30,46 @@ use Rattle.predecessors.proofs.Tables.{all-more, equal, entry-leads, en
 pub row-whole : (k : ℕ) (S : Set) (d : List ℕ) → length d ≡ k → rowOf k S ++ drop k d ≡ rowOf k S
 row-whole k S d e = ap (λ (l : List ℕ). rowOf k S ++ l) (drop-of-length-le d {i = k} (omega arith)) ∙ append-nil (rowOf k S)
 
--- words that are all 0 hold no state
-pub row-none : (k : ℕ) → replicate k 0 ≡ rowOf k (λ q. false)
-unfolding inRow
-row-none k =
-    row-ext k (λ q. false) (replicate k 0) (length-replicate k 0) (λ j. rw (getD-zeros k j) (pow-pos 64))
-    (λ q h. ap (λ (x : ℕ). bit x (q % 64)) (getD-zeros k (q / 64)) ∙ bit-of-zero (q % 64))
+-- what is added to words that are all 0
+pub row-from-none : (k : ℕ) (S : Set) → rowOf k (λ q. inRow (replicate k 0) q || S q) ≡ rowOf k S
+row-from-none k S = rowOf-cong k _ _ (λ q h. ap (λ (b : Bool). b || S q) (inRow-zeros k q))
 
 -- ---- the sets of each action in one row
 
 -- the words from 4 * a on hold the states of action a
 pub part-set : (sets : List ℕ) (a q : ℕ) → inRow (drop (4 * a) sets) q ≡ actionSet sets a q
-unfolding inRow actionSet
-part-set sets a q =
-    let word : 4 * a + q / 64 ≡ (256 * a + q) / 64 = omega arith in
-    let place : q % 64 ≡ (256 * a + q) % 64 = omega arith in
-    ap₂ (λ (x i : ℕ). bit x i) (getD-drop (4 * a) sets (q / 64) 0 ∙ ap (λ (j : ℕ). getD sets j 0) word) place
+unfolding actionSet
+part-set sets a q = part-in sets a q
 
-pub part-length : (sets : List ℕ) (a : ℕ) {part : List ℕ} → length sets ≡ 260 → a ≤ 64 → part ≡ drop (4 * a) sets → 4 ≤ length part
-part-length sets a long h e = omega (arith, ap length e, length-drop (4 * a) sets)
+-- a copy of the words from 4 * a on
+pub part-copied : (sets : List ℕ) (a : ℕ) {part row : List ℕ} → part ≡ drop (4 * a) sets → row ≡ rowOf 4 (inRow part) → row ≡ rowOf 4 (actionSet sets a)
+part-copied sets a lent copied = copied ∙ rowOf-cong 4 _ _ (λ q h. ap (λ (l : List ℕ). inRow l q) lent ∙ part-set sets a q)
 
--- the states of a in `outside`, without those in `inside`
-pub removed : (outside inside : List ℕ) (a : ℕ) {from mask row : List ℕ} → from ≡ drop (4 * a) outside → mask ≡ drop (4 * a) inside → row ≡ rowOf 4 (inRow from)
-    → rowOf 4 (λ q. inRow row q && not (inRow mask q)) ++ drop 4 row ≡ rowOf 4 (removeSet outside inside a)
-unfolding removeSet
-removed outside inside a {row = row} outer inner copied =
-    row-whole 4 _ row (ap length copied ∙ length-listBelow 4 _)
-    ∙ rowOf-cong 4 _ _ (λ q h. ap₂ (λ (x y : Bool). x && not y)
-    (ap (λ (l : List ℕ). inRow l q) copied ∙ inRow-of 4 _ q h ∙ ap (λ (l : List ℕ). inRow l q) outer ∙ part-set outside a q)
-    (ap (λ (l : List ℕ). inRow l q) inner ∙ part-set inside a q))
+-- ---- the keys into X
 
--- ---- the sets into X
+module _ (k : ℕ) (keys targets : List ℕ) where
+  pub keys-cong : (X Y : Set) → ((i : ℕ) → i < k → X (getD targets i 0) ≡ Y (getD targets i 0)) → (x : ℕ) → keysInto k keys targets X x ≡ keysInto k keys targets Y x
+  unfolding keysInto
+  keys-cong X Y same x = any-cong k _ _ (λ i h. ap (λ (b : Bool). eqb x (getD keys i 0) && b) (same i h))
 
-module _ (k : ℕ) (sources actions targets : List ℕ) where
-  pub sources-cong : (X Y : Set) → ((i : ℕ) → i < k → X (getD targets i 0) ≡ Y (getD targets i 0)) → (x : ℕ)
-      → sourcesInto k sources actions targets X x ≡ sourcesInto k sources actions targets Y x
-  unfolding sourcesInto
-  sources-cong X Y same x = any-cong k _ _ (λ i h. ap (λ (b : Bool). eqb x (256 * getD actions i 0 + getD sources i 0) && b) (same i h))
+  pub keys-all : {row : List ℕ} → Fits k keys targets
+      → row ≡ rowOf 260 (λ x. inRow (replicate 260 0) x || keysInto k keys targets (inRow (replicate 4 18446744073709551615)) x) → row ≡ rowOf 260 (keysInto k keys targets (λ t. true))
+  keys-all fits e =
+      e
+      ∙ row-from-none 260 (keysInto k keys targets (inRow (replicate 4 18446744073709551615)))
+      ∙ rowOf-cong 260 _ _ (λ x h.
+      keys-cong (inRow (replicate 4 18446744073709551615)) (λ t. true) (λ i l. inRow-ones 4 (getD targets i 0) (omega (arith, fits .target i l))) x)
 
-  pub sources-all : {row : List ℕ} → Numbers k sources actions targets → row ≡ rowOf 260 (sourcesInto k sources actions targets (inRow (replicate 4 18446744073709551615)))
-      → row ≡ rowOf 260 (sourcesInto k sources actions targets (λ t. true))
-  sources-all numbers e =
-      e ∙ rowOf-cong 260 _ _ (λ x h.
-      sources-cong (inRow (replicate 4 18446744073709551615)) (λ t. true) (λ i l. inRow-ones 4 (getD targets i 0) (omega (arith, numbers .target i l))) x)
+  pub keys-empty : (x : ℕ) → keysInto k keys targets (λ q. false) x ≡ false
+  unfolding keysInto
+  keys-empty x = sym (any-no k _ (λ i h. and-false (eqb x (getD keys i 0))))
 
-  pub sources-empty : (x : ℕ) → sourcesInto k sources actions targets (λ q. false) x ≡ false
-  unfolding sourcesInto
-  sources-empty x = sym (any-no k _ (λ i h. and-false (eqb x (256 * getD actions i 0 + getD sources i 0))))
-    where
-      and-false : (b : Bool) → b && false ≡ false
-      and-false true = refl
-      and-false false = refl
-
-pub sources-or : (k : ℕ) (sources actions targets : List ℕ) (X Y : Set) (x : ℕ)
-    → sourcesInto k sources actions targets (λ q. X q || Y q) x ≡ sourcesInto k sources actions targets X x || sourcesInto k sources actions targets Y x
-unfolding sourcesInto anyBelow
-sources-or zero sources actions targets X Y x = refl
-sources-or (suc k) sources actions targets X Y x =
-    ap (λ (b : Bool). b || (eqb x (256 * getD actions k 0 + getD sources k 0) && (X (getD targets k 0) || Y (getD targets k 0)))) (sources-or k sources actions targets X Y x)
-    ∙ shuffle (sourcesInto k sources actions targets X x) (sourcesInto k sources actions targets Y x) (eqb x (256 * getD actions k 0 + getD sources k 0)) (X (getD targets k 0)) (Y (getD targets k 0))
+pub keys-or : (k : ℕ) (keys targets : List ℕ) (X Y : Set) (x : ℕ) → keysInto k keys targets (λ q. X q || Y q) x ≡ keysInto k keys targets X x || keysInto k keys targets Y x
+unfolding keysInto anyBelow
+keys-or zero keys targets X Y x = refl
+keys-or (suc k) keys targets X Y x =
+    ap (λ (b : Bool). b || (eqb x (getD keys k 0) && (X (getD targets k 0) || Y (getD targets k 0)))) (keys-or k keys targets X Y x)
+    ∙ shuffle (keysInto k keys targets X x) (keysInto k keys targets Y x) (eqb x (getD keys k 0)) (X (getD targets k 0)) (Y (getD targets k 0))
   where
     shuffle : (a b e x y : Bool) → (a || b) || (e && (x || y)) ≡ (a || (e && x)) || (b || (e && y))
     shuffle true b e x y = refl
@@ -100,23 +80,40 @@ sources-or (suc k) sources actions targets X Y x =
     shuffle false false true false y = refl
     shuffle false false false x y = refl
 
+-- ---- `write_keys`, transition by transition
+
+module _ (sources actions : List ℕ) where
+  pub keyed-none : (keys : List ℕ) → Keyed 0 sources actions keys
+  keyed-none keys = record { key = λ i h. absurd (not-suc-le-zero h) }
+
+  pub keyed-more : (i : ℕ) (keys : List ℕ) → Keyed i sources actions keys → i < length keys → Keyed (i + 1) sources actions (set keys i (256 * getD actions i 0 + getD sources i 0))
+  keyed-more i keys keyed room = record {
+    key = λ j h. ⊎-elim
+        (λ (b : j < i). getD-set-other keys i j _ 0 (λ e. omega (arith, b, e)) ∙ keyed .key j b)
+        (λ (b : i ≤ j). let e : i ≡ j = omega (arith, b, h) in
+        subst (λ (x : ℕ). getD (set keys i (256 * getD actions i 0 + getD sources i 0)) x 0 ≡ 256 * getD actions x 0 + getD sources x 0) e
+        (getD-set-same keys i _ 0 room))
+        (lt-or-ge j i);
+  }
+
+-- a key into X names the source and the action
+pub into-sources : (k : ℕ) (sources actions keys targets : List ℕ) → Keyed k sources actions keys → (X : Set) (x : ℕ) → keysInto k keys targets X x ≡ sourcesInto k sources actions targets X x
+unfolding keysInto sourcesInto
+into-sources k sources actions keys targets keyed X x = any-cong k _ _ (λ i h. ap (λ (y : ℕ). eqb x y && X (getD targets i 0)) (keyed .key i h))
+
 -- the part of action a in a row of sets
 pub action-set-of : (S : Set) {row : List ℕ} (a q : ℕ) → row ≡ rowOf 260 S → a ≤ 64 → q < 256 → actionSet row a q ≡ S (256 * a + q)
 unfolding actionSet
 action-set-of S a q e ha hq = ap (λ (l : List ℕ). inRow l (256 * a + q)) e ∙ inRow-of 260 S (256 * a + q) (omega arith)
 
 -- where N and Y have all targets, what has a transition and none into Y is what has one into N and none into Y
-pub remove-enabled : (k : ℕ) (sources actions targets : List ℕ) (N Y : Set) → ((i : ℕ) → i < k → N (getD targets i 0) || Y (getD targets i 0) ≡ true)
-    → {enabled outside inside : List ℕ} → enabled ≡ rowOf 260 (sourcesInto k sources actions targets (λ t. true)) → outside ≡ rowOf 260 (sourcesInto k sources actions targets N)
-    → inside ≡ rowOf 260 (sourcesInto k sources actions targets Y) → (a q : ℕ) → a ≤ 64 → q < 256 → removeSet enabled inside a q ≡ removeSet outside inside a q
-unfolding removeSet
-remove-enabled k sources actions targets N Y whole {enabled} {outside} {inside} all outer inner a q ha hq =
-    ap (λ (b : Bool). b && not (actionSet inside a q)) (
-    action-set-of (sourcesInto k sources actions targets (λ t. true)) a q all ha hq
-    ∙ sources-cong k sources actions targets (λ t. true) (λ t. N t || Y t) (λ i h. sym (whole i h)) (256 * a + q)
-    ∙ sources-or k sources actions targets N Y (256 * a + q)
-    ∙ sym (ap₂ _||_ (action-set-of (sourcesInto k sources actions targets N) a q outer ha hq) (action-set-of (sourcesInto k sources actions targets Y) a q inner ha hq)))
-    ∙ without (actionSet outside a q) (actionSet inside a q)
+pub remove-enabled : (k : ℕ) (keys targets : List ℕ) (N Y : Set) → ((i : ℕ) → i < k → N (getD targets i 0) || Y (getD targets i 0) ≡ true) → (x : ℕ)
+    → keysInto k keys targets (λ t. true) x && not (keysInto k keys targets Y x) ≡ keysInto k keys targets N x && not (keysInto k keys targets Y x)
+remove-enabled k keys targets N Y whole x =
+    ap (λ (b : Bool). b && not (keysInto k keys targets Y x)) (
+    keys-cong k keys targets (λ t. true) (λ t. N t || Y t) (λ i h. sym (whole i h)) x
+    ∙ keys-or k keys targets N Y x)
+    ∙ without (keysInto k keys targets N x) (keysInto k keys targets Y x)
   where
     without : (b c : Bool) → (b || c) && not c ≡ b && not c
     without true c = refl
@@ -132,10 +129,6 @@ module _ (n : ℕ) (sources actions enabled : List ℕ) (K : Rel) where
   pub kept-none : matrixOf n K ≡ matrixOf n (keptBelow sources actions enabled K 0)
   unfolding allBelow
   kept-none = matrixOf-cong n _ _ (λ p q hp hq. sym (and-true (K p q)))
-    where
-      and-true : (b : Bool) → b && true ≡ b
-      and-true true = refl
-      and-true false = refl
 
   pub kept-more : (i : ℕ) (g part : List ℕ) → g ≡ matrixOf n (keptBelow sources actions enabled K i) → part ≡ drop (4 * getD actions i 0) enabled
       → matrixOf n (setRow (getD sources i 0) (λ q. relationOf n g (getD sources i 0) q && inRow part q) (relationOf n g)) ≡ matrixOf n (keptBelow sources actions enabled K (i + 1))
@@ -146,14 +139,10 @@ module _ (n : ℕ) (sources actions enabled : List ℕ) (K : Rel) where
       shown : ℕ → ℕ → ℕ → Bool
       shown p q j = eqb (getD sources j 0) p ⇒ actionSet enabled (getD actions j 0) q
 
-      and-true : (b c : Bool) {d : Bool} → d ≡ true → b && c ≡ b && (c && d)
-      and-true true true e = sym e
-      and-true true false e = refl
-      and-true false c e = refl
-
-      and-assoc : (b c d : Bool) → (b && c) && d ≡ b && (c && d)
-      and-assoc true c d = refl
-      and-assoc false c d = refl
+      kept : (b c : Bool) {d : Bool} → d ≡ true → b && c ≡ b && (c && d)
+      kept true true e = sym e
+      kept true false e = refl
+      kept false c e = refl
 
       go : (p q : ℕ) → p < n → q < n → (b : Bool) → eqb p (getD sources i 0) ≡ b
           → cond b (relationOf n g (getD sources i 0) q && inRow part q) (relationOf n g p q) ≡ K p q && (allBelow i (shown p q) && shown p q i)
@@ -165,7 +154,7 @@ module _ (n : ℕ) (sources actions enabled : List ℕ) (K : Rel) where
           ∙ and-assoc (K p q) (allBelow i (shown p q)) (shown p q i)
       go p q hp hq false e =
           relation-of n (keptBelow sources actions enabled K i) now p q hp hq
-          ∙ and-true (K p q) (allBelow i (shown p q)) (ap (λ (b : Bool). b ⇒ actionSet enabled (getD actions i 0) q) (ne-eqb (getD sources i 0) p (λ same. clash (eq-eqb p (getD sources i 0) (sym same)) e)))
+          ∙ kept (K p q) (allBelow i (shown p q)) (ap (λ (b : Bool). b ⇒ actionSet enabled (getD actions i 0) q) (ne-eqb (getD sources i 0) p (λ same. clash (eq-eqb p (getD sources i 0) (sym same)) e)))
 
 -- ---- the sets of a table
 
@@ -175,6 +164,13 @@ table-numbers tab = record {
   source = λ i h. omega (arith, tab .source i h, tab .states);
   action = λ i h. omega (arith, tab .action i h, tab .labels);
   target = λ i h. omega (arith, tab .target i h, tab .states);
+}
+
+pub table-fits : {n m k : ℕ} {sources actions keys targets : List ℕ} → Table n m k sources actions targets → Keyed k sources actions keys → Fits k keys targets
+table-fits tab keyed = record {
+  size = tab .size;
+  key = λ i h. omega (arith, keyed .key i h, table-numbers tab .source i h, table-numbers tab .action i h);
+  target = table-numbers tab .target;
 }
 
 module _ {n m k : ℕ} {sources actions targets : List ℕ} (tab : Table n m k sources actions targets) where
@@ -212,12 +208,17 @@ module _ {n m k : ℕ} {sources actions targets : List ℕ} (tab : Table n m k s
       → actionSet row a q ≡ into (tableLts n m k sources actions targets) a X q
   action-set-into X a q e ha hq = action-set-of (sourcesInto k sources actions targets X) a q e ha hq ∙ sources-into-is X a q hq
 
-  -- Rem, from the sets into N and into Y
-  pub remove-set-is : (Y N : Set) {outside inside : List ℕ} (a q : ℕ) → outside ≡ rowOf 260 (sourcesInto k sources actions targets N)
-      → inside ≡ rowOf 260 (sourcesInto k sources actions targets Y) → a ≤ 64 → q < 256
-      → removeSet outside inside a q ≡ remove (tableLts n m k sources actions targets) a Y N q
-  unfolding removeSet remove
-  remove-set-is Y N a q outer inner ha hq = ap₂ (λ (x y : Bool). x && not y) (action-set-into N a q outer ha hq) (action-set-into Y a q inner ha hq)
+  -- Rem, from the keys into N and into Y
+  pub remove-set-is : {keys : List ℕ} → Keyed k sources actions keys → (Y N : Set) {row : List ℕ} (a q : ℕ)
+      → row ≡ rowOf 260 (λ x. keysInto k keys targets N x && not (keysInto k keys targets Y x)) → a ≤ 64 → q < 256
+      → actionSet row a q ≡ remove (tableLts n m k sources actions targets) a Y N q
+  unfolding remove
+  remove-set-is {keys} keyed Y N a q e ha hq =
+      action-set-of (λ x. keysInto k keys targets N x && not (keysInto k keys targets Y x)) a q e ha hq
+      ∙ ap₂ (λ (x y : Bool). x && not y) (at N) (at Y)
+    where
+      at : (X : Set) → keysInto k keys targets X (256 * a + q) ≡ into (tableLts n m k sources actions targets) a X q
+      at X = into-sources k sources actions keys targets keyed X (256 * a + q) ∙ sources-into-is X a q hq
 
   -- K at the beginning, from the set of the states with a transition by each action
   pub initial-is : (preorder : Rel) {enabled : List ℕ} → enabled ≡ rowOf 260 (sourcesInto k sources actions targets (λ t. true))

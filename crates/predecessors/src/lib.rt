@@ -1,110 +1,173 @@
-// Sets of states by action over a transition table: which states have a transition by an action into a set.
+// Sets of states by action over a transition table: which states have a transition by an action into a set. A set is a row of keys: the
+// key of a transition from q by a is 256 * a + q.
 ghost use mathlib.Core.Path.{_≡_};
-ghost use mathlib.Core.Bool.{true, _&&_, _||_};
+ghost use mathlib.Core.Bool.{true, not, _&&_, _||_};
 ghost use mathlib.Core.List.{List};
 ghost use Prim.Native.Nat.{ℕ, _*_, _<_, _≤_};
 ghost use lib.Dec.{eqb};
-ghost use lib.ListN.{length, getD, drop};
+ghost use lib.ListN.{length, getD};
 ghost use Rattle.lts.specs.Bounded.{_⇒_, allBelow};
 ghost use Rattle.lts.specs.Refinement.{initial};
 ghost use Rattle.lts.specs.Table.{tableLts, Table};
 ghost use Rattle.relation.specs.Matrix.{inRow, rowOf, rowWords, relationOf, matrixOf, Matrix};
-ghost use Rattle.predecessors.specs.Sources.{Numbers, Linked, Chained, sourcesInto, actionSet, removeSet};
+ghost use Rattle.predecessors.specs.Sources.{Keyed, Fits, Linked, IntoStates, OfKeys, Chains, sourcesInto, keysInto, actionSet};
 
-// Links the transitions into each state, last first: head[t] is one more than the number of the last transition into t, and link[i]
-// one more than that of the last before i into the same state; 0 where there is none.
-pub fn link_transitions(
-    k: usize,
-    targets: &[u16; 1024],
-    head: &mut [u16; 256],
-    link: &mut [u16; 1024],
-)
-    requires { ⌜ (k ≤ 1024) × (length (now head) ≡ 256) × (length (now link) ≡ 1024) ⌝ }
-    requires { ⌜ ((i : ℕ) → i < k → getD (now targets) i 0 < 256) ⌝ }
-    requires { ⌜ ((t : ℕ) → t < 256 → getD (now head) t 0 ≡ 0) ⌝ }
-    ensures { λ _. ⌜ Linked k (now (targets .entry)) (now (head .exit)) (now (link .exit)) ⌝ }
+// The key of each transition.
+pub fn write_keys(k: usize, sources: &[u16; 1024], actions: &[u8; 1024], keys: &mut [u16; 1024])
+    requires { ⌜ (k ≤ 1024) × (length (now keys) ≡ 1024) ⌝ }
+    requires { ⌜ ((i : ℕ) → i < k → getD (now sources) i 0 < 256) ⌝ }
+    requires { ⌜ ((i : ℕ) → i < k → getD (now actions) i 0 ≤ 64) ⌝ }
+    ensures { λ _. ⌜ Keyed k (now (sources .entry)) (now (actions .entry)) (now (keys .exit)) ⌝ }
 {
     let mut i = 0;
     while i < k {
-        let t = targets[i] as usize;
+        keys[i] = (256 * (actions[i] as usize) + (sources[i] as usize)) as u16;
+        i += 1;
+    }
+}
+
+// Links the transitions with each number, last first: head[t] is one more than the index of the last transition with number t, and
+// link[i] one more than that of the last before i with the same number; 0 where there is none.
+pub fn link_transitions(k: usize, numbers: &[u16; 1024], head: &mut [u16], link: &mut [u16; 1024])
+    requires { ⌜ (k ≤ 1024) × (length (now link) ≡ 1024) ⌝ }
+    requires { ⌜ ((i : ℕ) → i < k → getD (now numbers) i 0 < length (now head)) ⌝ }
+    requires { ⌜ ((t : ℕ) → t < length (now head) → getD (now head) t 0 ≡ 0) ⌝ }
+    ensures { λ _. ⌜ Linked (length (now (head .entry))) k (now (numbers .entry)) (now (head .exit)) (now (link .exit)) ⌝ }
+{
+    let mut i = 0;
+    while i < k {
+        let t = numbers[i] as usize;
         link[i] = head[t];
         head[t] = (i + 1) as u16;
         i += 1;
     }
 }
 
-// Adds the member 256 * a + q for each transition from q by a into t.
+// Adds the keys of the transitions into t.
 fn add_entering(
-    sources: &[u16; 1024],
-    actions: &[u8; 1024],
+    keys: &[u16; 1024],
     head: &[u16; 256],
     link: &[u16; 1024],
     t: usize,
     out: &mut [u64],
 )
-    requires { ⌜ Chained (now sources) (now actions) (now head) (now link) × (t < 256) × (length (now out) ≡ 260) ⌝ }
-    ensures { λ _. ⌜ ((k : ℕ) (targets : List ℕ) → Numbers k (now (sources .entry)) (now (actions .entry)) targets → Linked k targets (now (head .entry)) (now (link .entry)) → now (out .exit) ≡ rowOf 260 (λ x. inRow (now (out .entry)) x || sourcesInto k (now (sources .entry)) (now (actions .entry)) targets (λ q. eqb q t) x)) ⌝ }
+    requires { ⌜ IntoStates (now keys) (now head) (now link) × (t < 256) × (length (now out) ≡ 260) ⌝ }
+    ensures { λ _. ⌜ ((k : ℕ) (targets : List ℕ) → Fits k (now (keys .entry)) targets → Linked 256 k targets (now (head .entry)) (now (link .entry)) → now (out .exit) ≡ rowOf 260 (λ x. inRow (now (out .entry)) x || keysInto k (now (keys .entry)) targets (λ q. eqb q t) x)) ⌝ }
 {
     let mut i = head[t] as usize;
     while 0 < i {
         let j = i - 1;
-        let x = 256 * (actions[j] as usize) + (sources[j] as usize);
-        relation::insert(out, x);
+        relation::insert(out, keys[j] as usize);
         i = link[j] as usize;
     }
 }
 
-// The states with a transition by action a into `set`, as the members 256 * a + q, for all actions.
-pub fn sources_into(
-    sources: &[u16; 1024],
-    actions: &[u8; 1024],
+// Adds the keys of the transitions into `set`.
+pub fn add_sources(
+    keys: &[u16; 1024],
     head: &[u16; 256],
     link: &[u16; 1024],
     set: &[u64; 4],
-) -> [u64; 260]
-    requires { ⌜ Chained (now sources) (now actions) (now head) (now link) ⌝ }
-    ensures { λ r. ⌜ ((k : ℕ) (targets : List ℕ) → Numbers k (now (sources .entry)) (now (actions .entry)) targets → Linked k targets (now (head .entry)) (now (link .entry)) → r ≡ rowOf 260 (sourcesInto k (now (sources .entry)) (now (actions .entry)) targets (inRow (now (set .entry))))) ⌝ }
+    out: &mut [u64],
+)
+    requires { ⌜ IntoStates (now keys) (now head) (now link) × (length (now out) ≡ 260) ⌝ }
+    ensures { λ _. ⌜ ((k : ℕ) (targets : List ℕ) → Fits k (now (keys .entry)) targets → Linked 256 k targets (now (head .entry)) (now (link .entry)) → now (out .exit) ≡ rowOf 260 (λ x. inRow (now (out .entry)) x || keysInto k (now (keys .entry)) targets (inRow (now (set .entry))) x)) ⌝ }
 {
-    let mut out = [0u64; 260];
     let mut t = relation::next_state(set, 4, 0);
     while t < 256 {
-        add_entering(sources, actions, head, link, t, &mut out);
+        add_entering(keys, head, link, t, out);
         t = relation::next_state(set, 4, t + 1);
     }
+}
+
+// The keys of all transitions.
+pub fn enabled_sources(keys: &[u16; 1024], head: &[u16; 256], link: &[u16; 1024]) -> [u64; 260]
+    requires { ⌜ IntoStates (now keys) (now head) (now link) ⌝ }
+    ensures { λ r. ⌜ ((k : ℕ) (targets : List ℕ) → Fits k (now (keys .entry)) targets → Linked 256 k targets (now (head .entry)) (now (link .entry)) → r ≡ rowOf 260 (keysInto k (now (keys .entry)) targets (λ t. true))) ⌝ }
+{
+    let all = [18446744073709551615u64; 4];
+    let mut out = [0u64; 260];
+    add_sources(keys, head, link, &all, &mut out);
     out
 }
 
-// The states with a transition by action a, for all actions.
-pub fn enabled_sources(
-    sources: &[u16; 1024],
-    actions: &[u8; 1024],
+// Whether a transition with key x goes into the set.
+fn enters(
+    targets: &[u16; 1024],
+    first: &[u16; 16640],
+    next: &[u16; 1024],
+    x: usize,
+    set: &[u64; 4],
+) -> bool
+    requires { ⌜ OfKeys (now targets) (now first) (now next) × (x < 16640) ⌝ }
+    ensures { λ r. ⌜ ((k : ℕ) (keys : List ℕ) → Fits k keys (now (targets .entry)) → Linked 16640 k keys (now (first .entry)) (now (next .entry)) → r ≡ keysInto k keys (now (targets .entry)) (inRow (now (set .entry))) x) ⌝ }
+{
+    let mut i = first[x] as usize;
+    while 0 < i {
+        let j = i - 1;
+        if relation::contains(set, targets[j] as usize) {
+            return true;
+        }
+        i = next[j] as usize;
+    }
+    false
+}
+
+// Adds the keys of the transitions into t that have none into `inside`.
+fn add_removed_at(
+    keys: &[u16; 1024],
+    targets: &[u16; 1024],
     head: &[u16; 256],
     link: &[u16; 1024],
-) -> [u64; 260]
-    requires { ⌜ Chained (now sources) (now actions) (now head) (now link) ⌝ }
-    ensures { λ r. ⌜ ((k : ℕ) (targets : List ℕ) → Numbers k (now (sources .entry)) (now (actions .entry)) targets → Linked k targets (now (head .entry)) (now (link .entry)) → r ≡ rowOf 260 (sourcesInto k (now (sources .entry)) (now (actions .entry)) targets (λ t. true))) ⌝ }
+    first: &[u16; 16640],
+    next: &[u16; 1024],
+    t: usize,
+    inside: &[u64; 4],
+    out: &mut [u64],
+)
+    requires { ⌜ ((k : ℕ) × Chains k (now keys) (now targets) (now head) (now link) (now first) (now next)) × (t < 256) × (length (now out) ≡ 260) ⌝ }
+    ensures { λ _. ⌜ ((k : ℕ) → Chains k (now (keys .entry)) (now (targets .entry)) (now (head .entry)) (now (link .entry)) (now (first .entry)) (now (next .entry)) → now (out .exit) ≡ rowOf 260 (λ x. inRow (now (out .entry)) x || (keysInto k (now (keys .entry)) (now (targets .entry)) (λ q. eqb q t) x && not (keysInto k (now (keys .entry)) (now (targets .entry)) (inRow (now (inside .entry))) x)))) ⌝ }
 {
-    let all = [18446744073709551615u64; 4];
-    sources_into(sources, actions, head, link, &all)
+    let mut i = head[t] as usize;
+    while 0 < i {
+        let j = i - 1;
+        let x = keys[j] as usize;
+        if !enters(targets, first, next, x, inside) {
+            relation::insert(out, x);
+        }
+        i = link[j] as usize;
+    }
 }
 
-// The sets from action a's on.
-pub fn action_part(sets: &[u64], a: usize) -> &[u64]
-    requires { ⌜ (length (now sets) ≡ 260) × (a ≤ 64) ⌝ }
-    ensures { λ r. ⌜ now r ≡ drop (4 * a) (now (sets .entry)) ⌝ }
+// Adds the keys of the transitions into `outside` that have none into `inside`: Rem of every action.
+pub fn add_removed(
+    keys: &[u16; 1024],
+    targets: &[u16; 1024],
+    head: &[u16; 256],
+    link: &[u16; 1024],
+    first: &[u16; 16640],
+    next: &[u16; 1024],
+    outside: &[u64; 4],
+    inside: &[u64; 4],
+    out: &mut [u64],
+)
+    requires { ⌜ ((k : ℕ) × Chains k (now keys) (now targets) (now head) (now link) (now first) (now next)) × (length (now out) ≡ 260) ⌝ }
+    ensures { λ _. ⌜ ((k : ℕ) → Chains k (now (keys .entry)) (now (targets .entry)) (now (head .entry)) (now (link .entry)) (now (first .entry)) (now (next .entry)) → now (out .exit) ≡ rowOf 260 (λ x. inRow (now (out .entry)) x || (keysInto k (now (keys .entry)) (now (targets .entry)) (inRow (now (outside .entry))) x && not (keysInto k (now (keys .entry)) (now (targets .entry)) (inRow (now (inside .entry))) x)))) ⌝ }
 {
-    let at = 4 * a;
-    &sets[at..]
+    let mut t = relation::next_state(outside, 4, 0);
+    while t < 256 {
+        add_removed_at(keys, targets, head, link, first, next, t, inside, out);
+        t = relation::next_state(outside, 4, t + 1);
+    }
 }
 
-// The set Rem of action a: the states with a transition by it into N and none into Y.
-pub fn remove_set(outside: &[u64; 260], inside: &[u64; 260], a: usize) -> [u64; 4]
+// The set of action a.
+pub fn action_set(sets: &[u64; 260], a: usize) -> [u64; 4]
     requires { ⌜ a ≤ 64 ⌝ }
-    ensures { λ r. ⌜ r ≡ rowOf 4 (removeSet (now (outside .entry)) (now (inside .entry)) a) ⌝ }
+    ensures { λ r. ⌜ r ≡ rowOf 4 (actionSet (now (sets .entry)) a) ⌝ }
 {
     let mut out = [0u64; 4];
-    relation::row_copy(&mut out, action_part(outside, a), 4);
-    relation::row_minus(&mut out, action_part(inside, a), 4);
+    relation::row_copy(&mut out, relation::action_part(sets, a), 4);
     out
 }
 
@@ -126,7 +189,7 @@ fn keep_enabled(
     while i < k {
         let p = sources[i] as usize;
         let a = actions[i] as usize;
-        relation::keep_states(related, n, p, action_part(enabled, a));
+        relation::keep_states(related, n, p, relation::action_part(enabled, a));
         i += 1;
     }
 }

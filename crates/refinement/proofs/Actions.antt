@@ -3,8 +3,8 @@ use Prim.Native.Nat.{ℕ, zero, suc, _+_, _*_, _≤_, _<_}
 use native.Mathlib.Nat.{le-refl, le-trans, le-step}
 use native.Mathlib.Numerals.{add-one}
 use native.Mathlib.Omega.{arith}
-use mathlib.Core.Path.{_≡_, refl, sym, _∙_, ap, subst}
-use mathlib.Core.Bool.{Bool, true, false, not, _&&_}
+use mathlib.Core.Path.{_≡_, refl, sym, _∙_, ap, ap₂, subst}
+use mathlib.Core.Bool.{Bool, true, false, cond, not, _&&_, and-true, and-false}
 use mathlib.Core.List.{List}
 use lib.Dec.{T}
 use lib.ListN.{drop}
@@ -14,21 +14,18 @@ use Rattle.lts.specs.Refinement.{block, remove, refine, eachAction}
 use Rattle.lts.proofs.Bounded.{any-iff, test-ext}
 use Rattle.lts.proofs.Refine.{Blocks}
 use Rattle.relation.specs.Matrix.{inRow, rowOf, relationOf, matrixOf}
+use Rattle.relation.proofs.Bounded.{any-no, any-cong}
 use Rattle.relation.proofs.Matrices.{relation-of, matrixOf-cong}
 use Rattle.relation.proofs.Rows.{inRow-of}
 use Rattle.predecessors.proofs.Laws.{part-set}
-use Rattle.predecessors.specs.Sources.{actionSet, removeSet}
+use Rattle.predecessors.specs.Sources.{actionSet}
 use Rattle.splitting.specs.Split.{splitRelated, splitBlocks, pruneRelated, refinedRelated}
-use Rattle.splitting.proofs.Laws.{split-cong, split-blocks-cong, prune-cong, refined-cong, refined-is, refined-blocks-is}
-use Rattle.refinement.specs.Engine.{Refined, actionsTo}
+use Rattle.splitting.proofs.Laws.{split-cong, split-blocks-cong, refined-cong, refined-is, refined-blocks-is}
+use Rattle.refinement.specs.Engine.{Refined, actionsTo, without, HitRows}
 
 -- a test that no number below k passes
-any-off : (k : ℕ) (f : Set) → false ≡ anyBelow k f → (q : ℕ) → q < k → f q ≡ false
+pub any-off : (k : ℕ) (f : Set) → false ≡ anyBelow k f → (q : ℕ) → q < k → f q ≡ false
 any-off k f e q h = test-ext (f q) false (λ t. subst T (sym e) (any-iff k f .1 (q, h, t))) (λ t. absurd t)
-
-and-true : (b : Bool) → b && true ≡ b
-and-true true = refl
-and-true false = refl
 
 idle : (k p hit : Bool) → k ≡ k && not (p && true && false) && not (hit && false)
 idle k true true = sym (and-true (k && true) ∙ and-true k)
@@ -37,9 +34,9 @@ idle k false true = sym (and-true (k && true) ∙ and-true k)
 idle k false false = sym (and-true (k && true) ∙ and-true k)
 
 -- one action on matrices, from the sets of all actions
-module _ (n : ℕ) (outside inside members : List ℕ) (a : ℕ) (K P : Rel) (small : n ≤ 256) where
+module _ (n : ℕ) (removed members : List ℕ) (a : ℕ) (K P : Rel) (small : n ≤ 256) where
   abbrev Rem : Set
-  Rem = removeSet outside inside a
+  Rem = actionSet removed a
 
   abbrev Hits : Set
   Hits = actionSet members a
@@ -51,13 +48,45 @@ module _ (n : ℕ) (outside inside members : List ℕ) (a : ℕ) (K P : Rel) (sm
     pub blocks-split : (blocks : List ℕ) → blocks ≡ matrixOf n (splitBlocks (inRow rem) P) → blocks ≡ matrixOf n (splitBlocks Rem P)
     blocks-split blocks e = e ∙ matrixOf-cong n _ _ (split-blocks-cong n rem-in (λ _ _ _ _. refl))
 
-    pub related-refined : (part related blocks after : List ℕ) → part ≡ drop (4 * a) members → related ≡ matrixOf n (splitRelated (inRow rem) K P)
-        → blocks ≡ matrixOf n (splitBlocks (inRow rem) P) → after ≡ matrixOf n (pruneRelated n (inRow rem) (inRow part) (relationOf n related) (relationOf n blocks))
-        → after ≡ matrixOf n (refinedRelated n Rem Hits K P)
-    unfolding refinedRelated
-    related-refined part related blocks after p r b e = e ∙ matrixOf-cong n _ _
-        (prune-cong n rem-in (λ q _. ap (λ (l : List ℕ). inRow l q) p ∙ part-set members a q)
-        (λ g h l m. relation-of n _ r g h l m ∙ split-cong n rem-in (λ _ _ _ _. refl) (λ _ _ _ _. refl) g h l m) (relation-of n _ (blocks-split blocks b)))
+    -- Rem is pruned from the rows with a hit first, and then the blocks are split: the order does not matter, since a hit is not in Rem
+    module _ (free : (x : ℕ) → x < n → Hits x ≡ true → Rem x ≡ false) where
+      hit-split : (g : ℕ) → anyBelow n (λ x. P g x && Hits x) && not (Rem g) ≡ anyBelow n (λ x. splitBlocks Rem P g x && Hits x)
+      unfolding splitBlocks
+      hit-split g = go (Rem g)
+        where
+          never : (p r h : Bool) → (h ≡ true → r ≡ false) → (p && r) && h ≡ false
+          never p r false f = and-false (p && r)
+          never p r true f = ap (λ (b : Bool). (p && b) && true) (f refl) ∙ and-true (p && false) ∙ and-false p
+
+          stays : (p r h : Bool) → (h ≡ true → r ≡ false) → p && h ≡ (p && not r) && h
+          stays p r false f = and-false p ∙ sym (and-false (p && not r))
+          stays p r true f = sym (ap (λ (b : Bool). (p && not b) && true) (f refl) ∙ ap (λ (b : Bool). b && true) (and-true p))
+
+          go : (b : Bool) → anyBelow n (λ x. P g x && Hits x) && not b ≡ anyBelow n (λ x. (P g x && cond b (Rem x) (not (Rem x))) && Hits x)
+          go true = and-false (anyBelow n (λ x. P g x && Hits x)) ∙ any-no n _ (λ x h. never (P g x) (Rem x) (Hits x) (free x h))
+          go false = and-true (anyBelow n (λ x. P g x && Hits x)) ∙ any-cong n _ _ (λ x h. stays (P g x) (Rem x) (Hits x) (free x h))
+
+      pub related-refined : (part hit pruned after : List ℕ) → part ≡ drop (4 * a) members → HitRows n (inRow rem) (inRow part) P (inRow hit)
+          → pruned ≡ matrixOf n (without (inRow hit) (inRow rem) K) → after ≡ matrixOf n (splitRelated (inRow rem) (relationOf n pruned) P)
+          → after ≡ matrixOf n (refinedRelated n Rem Hits K P)
+      unfolding refinedRelated pruneRelated splitRelated
+      related-refined part hit pruned after p rows r e = e ∙ matrixOf-cong n _ _ (λ g h hg hh.
+          split-cong n {P = P} {P′ = P} rem-in (relation-of n _ r) (λ _ _ _ _. refl) g h hg hh
+          ∙ ap₂ (λ (s t : Bool). (K g h && not (s && t)) && not (P g h && not (Rem g) && Rem h)) (hit-in g hg) (rem-in h hh)
+          ∙ swap (K g h) (not (anyBelow n (λ x. splitBlocks Rem P g x && Hits x) && Rem h)) (not (P g h && not (Rem g) && Rem h)))
+        where
+          swap : (k b c : Bool) → (k && b) && c ≡ (k && c) && b
+          swap false b c = refl
+          swap true true true = refl
+          swap true true false = refl
+          swap true false true = refl
+          swap true false false = refl
+
+          hit-in : (g : ℕ) → g < n → inRow hit g ≡ anyBelow n (λ x. splitBlocks Rem P g x && Hits x)
+          hit-in g h =
+              rows g h
+              ∙ ap₂ (λ (s t : Bool). s && not t) (any-cong n _ _ (λ x _. ap (λ (b : Bool). P g x && b) (ap (λ (l : List ℕ). inRow l x) p ∙ part-set members a x))) (rem-in g h)
+              ∙ hit-split g
 
     -- where Rem is empty nothing changes
     module _ (none : false ≡ anyBelow (4 * 64) (inRow rem)) where
@@ -73,12 +102,12 @@ module _ (n : ℕ) (outside inside members : List ℕ) (a : ℕ) (K P : Rel) (sm
       related-idle = matrixOf-cong n _ _ (λ g h l m. rw (out g l, out h m) (idle (K g h) (P g h) (anyBelow n (λ x. splitBlocks Rem P g x && Hits x))))
 
 -- one action more, on matrices that hold what j actions left
-pub acted-next : (n : ℕ) (outside inside members : List ℕ) (j : ℕ) (r : Refined) (related blocks : List ℕ)
-    → related ≡ matrixOf n (actionsTo n outside inside members j r .related) → blocks ≡ matrixOf n (actionsTo n outside inside members j r .blocks)
-    → (matrixOf n (refinedRelated n (removeSet outside inside (j + 1)) (actionSet members (j + 1)) (relationOf n related) (relationOf n blocks)) ≡ matrixOf n (actionsTo n outside inside members (j + 1) r .related))
-    × (matrixOf n (splitBlocks (removeSet outside inside (j + 1)) (relationOf n blocks)) ≡ matrixOf n (actionsTo n outside inside members (j + 1) r .blocks))
+pub acted-next : (n : ℕ) (removed members : List ℕ) (j : ℕ) (r : Refined) (related blocks : List ℕ)
+    → related ≡ matrixOf n (actionsTo n removed members j r .related) → blocks ≡ matrixOf n (actionsTo n removed members j r .blocks)
+    → (matrixOf n (refinedRelated n (actionSet removed (j + 1)) (actionSet members (j + 1)) (relationOf n related) (relationOf n blocks)) ≡ matrixOf n (actionsTo n removed members (j + 1) r .related))
+    × (matrixOf n (splitBlocks (actionSet removed (j + 1)) (relationOf n blocks)) ≡ matrixOf n (actionsTo n removed members (j + 1) r .blocks))
 unfolding actionsTo
-acted-next n outside inside members j r related blocks e d =
+acted-next n removed members j r related blocks e d =
     rw add-one (
       matrixOf-cong n _ _ (refined-cong n (λ _ _. refl) (λ _ _. refl) (relation-of n _ e) (relation-of n _ d)),
       matrixOf-cong n _ _ (split-blocks-cong n (λ _ _. refl) (relation-of n _ d)),
@@ -86,10 +115,10 @@ acted-next n outside inside members j r related blocks e d =
 
 -- The actions 1 to j by rows are those of the refinement rule, where K has blocks after each, a hit is never in Rem, and the sets of all
 -- actions are those of the rule below n.
-module _ (L : Lts) (B Y N : Set) (K₀ : Rel) (outside inside members : List ℕ) (r : Refined)
+module _ (L : Lts) (B Y N : Set) (K₀ : Rel) (removed members : List ℕ) (r : Refined)
     (steady : (j : ℕ) → Blocks (λ g. g < L .states) (λ g h. T (eachAction j (refine L B Y N) K₀ g h)))
     (free : (a x : ℕ) → T (into L a B x) → T (remove L a Y N x) → ⊥)
-    (rem : (a q : ℕ) → a ≤ L .actions → q < L .states → removeSet outside inside a q ≡ remove L a Y N q)
+    (rem : (a q : ℕ) → a ≤ L .actions → q < L .states → actionSet removed a q ≡ remove L a Y N q)
     (hits : (a q : ℕ) → a ≤ L .actions → q < L .states → actionSet members a q ≡ into L a B q)
     (related : (p q : ℕ) → p < L .states → q < L .states → r .related p q ≡ K₀ p q)
     (blocks : (p q : ℕ) → p < L .states → q < L .states → r .blocks p q ≡ block K₀ p q) where
@@ -100,7 +129,7 @@ module _ (L : Lts) (B Y N : Set) (K₀ : Rel) (outside inside members : List ℕ
   done j = eachAction j (refine L B Y N) K₀
 
   abbrev rows : ℕ → Refined
-  rows j = actionsTo n outside inside members j r
+  rows j = actionsTo n removed members j r
 
   record Same (j : ℕ) : Type 0 where
     related-same : (p q : ℕ) → p < n → q < n → rows j .related p q ≡ done j p q

@@ -130,12 +130,24 @@ module _ (n m k : ℕ) (sources actions targets : List ℕ) (tab : Table n m k s
     unfolding tableLts eachAction relationsOf
     reflexive g h = sym (held-at n related g g h h) ∙ T-true (heldBy n related g g) (steady 0 .during 0 .loop h)
 
+    held : (p q : ℕ) → p < n → q < n → relationOf n blocks p q ≡ true → T (block (s .related) p q)
+    unfolding relationsOf
+    held p q l u e = subst T (sym e ∙ same-blocks p q l u ∙ block-held n related p q l u) tt
+
     -- the blocks are blocks, and a state outside a set of all states is none
     pub parted-first : Parted n (relationOf n blocks) (inRow (replicate 4 18446744073709551615))
-    unfolding block
+    unfolding block tableLts eachAction relationsOf
     parted-first = record {
-      sym = λ g h hg hh e. same-blocks h g hh hg ∙ turn (relationOf n related g h) (relationOf n related h g) (sym (same-blocks g h hg hh) ∙ e);
-      loop = λ g hg. same-blocks g g hg hg ∙ ap (λ (b : Bool). b && b) (reflexive g hg);
+      classes = record {
+        sym = λ g h hg hh e. same-blocks h g hh hg ∙ turn (relationOf n related g h) (relationOf n related h g) (sym (same-blocks g h hg hh) ∙ e);
+        loop = λ g hg. same-blocks g g hg hg ∙ ap (λ (b : Bool). b && b) (reflexive g hg);
+        trans = λ g h k hg hh hk e d.
+            let 𝓑 = steady 0 .during 0 in
+            let u = block-iff (s .related) g h .0 (held g h hg hh e) in
+            let v = block-iff (s .related) h k .0 (held h k hh hk d) in
+            same-blocks g k hg hk ∙ block-held n related g k hg hk
+            ∙ T-true (block (s .related) g k) (block-iff (s .related) g k .1 (𝓑 .shiftL (v .0) (u .1) (u .0), 𝓑 .shiftR (v .1) (u .1) (u .0)));
+      };
       single = λ g h hg hh out e. absurd (true≢false (sym (inRow-ones 4 g (omega (arith, hg, tab .states))) ∙ out));
     }
       where
@@ -143,13 +155,6 @@ module _ (n m k : ℕ) (sources actions targets : List ℕ) (tab : Table n m k s
         turn true true e = refl
         turn true false e = e
         turn false b e = absurd (true≢false (sym e))
-
-    -- the set of the pending representatives, from a row of zeros that is brought up to date at all states
-    pub pending-first : (pending : List ℕ)
-        → pending ≡ rowOf 4 (λ p. cond (ltb p n && inRow (replicate 4 18446744073709551615) p) (pendingAt n related viewed blocks p) (inRow (replicate 4 0) p))
-        → pending ≡ rowOf 4 (statesBelow n (pendingAt n related viewed blocks))
-    pending-first pending e =
-        partition.update-first (inRow (replicate 4 18446744073709551615)) (pendingAt n related viewed blocks) n pending (λ x h. inRow-ones 4 x (omega (arith, h, tab .states))) e
 
     module _ (pending : List ℕ) (c : ℕ) (pending-is : pending ≡ rowOf 4 (statesBelow n (pendingAt n related viewed blocks))) (count : c ≡ length (passing n (inRow pending))) where
       listed : passing n (inRow pending) ≡ passing n (pendingAt n related viewed blocks)

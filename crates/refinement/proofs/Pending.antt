@@ -2,17 +2,17 @@
 use Prim.Native.Nat.{ℕ, _*_, _≤_, _<_}
 use native.Mathlib.Omega.{arith}
 use mathlib.Core.Path.{_≡_, refl, sym, ap, ap₂, _∙_}
-use mathlib.Core.Bool.{Bool, true, false, cond, not, _&&_, xor, true≢false}
+use mathlib.Core.Bool.{Bool, true, false, not, _&&_, xor, true≢false}
 use mathlib.Core.List.{List, _++_}
-use lib.Dec.{eqb, ltb}
+use lib.Dec.{eqb}
 use lib.ListN.{drop}
 use Rattle.lts.specs.System.{Set, Rel}
 use Rattle.relation.specs.Matrix.{inRow, rowOf, statesBelow, relationOf}
 use Rattle.relation.proofs.Bounded.{any-cong}
-use Rattle.relation.proofs.Rows.{inRow-written}
+use Rattle.relation.proofs.Rows.{inRow-of, inRow-written}
+use Rattle.relation.proofs.Matrices.{states-in}
 use Rattle.partition.specs.Pending.{pendingIn}
 use Rattle.partition.proofs.Passing.{lowest-agree}
-use Rattle.partition.proofs.Laws.{update-right}
 use Rattle.splitting.specs.Split.{Singles, Parted}
 use Rattle.refinement.specs.Engine.{Unmoved}
 
@@ -27,23 +27,20 @@ pending-same n K W P K′ W′ P′ p k w b =
     ap₂ _&&_ (ap (λ (x : ℕ). eqb x p) (lowest-agree n (P p) (P′ p) (λ q h. sym (b q h))))
     (any-cong n (λ q. xor (W p q) (K p q)) (λ q. xor (W′ p q) (K′ p q)) (λ q h. ap₂ xor (sym (w q h)) (sym (k q h))))
 
--- the pending set after a step, brought up to date at the states that it touched
-pub pending-next : (n : ℕ) (touched related viewed blocks related′ viewed′ blocks′ pending pending′ : List ℕ) → Unmoved n touched related viewed blocks related′ viewed′ blocks′
-    → pending ≡ rowOf 4 (statesBelow n (pendingAt n related viewed blocks))
-    → pending′ ≡ rowOf 4 (λ p. cond (ltb p n && inRow touched p) (pendingAt n related′ viewed′ blocks′ p) (inRow pending p))
-    → pending′ ≡ rowOf 4 (statesBelow n (pendingAt n related′ viewed′ blocks′))
-pending-next n touched related viewed blocks related′ viewed′ blocks′ pending pending′ unmoved before now =
-    update-right (inRow touched) (pendingAt n related viewed blocks) (pendingAt n related′ viewed′ blocks′) n pending pending′ before
-    (λ p h out. pending-same n (relationOf n related) (relationOf n viewed) (relationOf n blocks) (relationOf n related′) (relationOf n viewed′) (relationOf n blocks′) p
-    (λ q l. unmoved .related-same p q h l out) (λ q l. unmoved .viewed-same p q h l out) (λ q l. unmoved .blocks-same p q h l out))
-    now
+-- the pending set is right after a step at the states that the step did not touch
+pub pending-kept : (n : ℕ) (touched related viewed blocks related′ viewed′ blocks′ pending : List ℕ) → n ≤ 256 → Unmoved n touched related viewed blocks related′ viewed′ blocks′
+    → pending ≡ rowOf 4 (statesBelow n (pendingAt n related viewed blocks)) → (p : ℕ) → p < n → inRow touched p ≡ false → inRow pending p ≡ pendingAt n related′ viewed′ blocks′ p
+pending-kept n touched related viewed blocks related′ viewed′ blocks′ pending small unmoved before p h out =
+    ap (λ (l : List ℕ). inRow l p) before ∙ inRow-of 4 (statesBelow n (pendingAt n related viewed blocks)) p (omega (arith, small, h))
+    ∙ states-in n (pendingAt n related viewed blocks) p h
+    ∙ pending-same n (relationOf n related) (relationOf n viewed) (relationOf n blocks) (relationOf n related′) (relationOf n viewed′) (relationOf n blocks′) p
+    (λ q l. unmoved .related-same p q h l out) (λ q l. unmoved .viewed-same p q h l out) (λ q l. unmoved .blocks-same p q h l out)
 
 -- states that are alone in their block are taken out of the shared ones
 pub parted-minus : (n : ℕ) (P : Rel) (shared alone shared′ : List ℕ) → n ≤ 256 → Parted n P (inRow shared) → Singles n P (inRow alone)
     → shared′ ≡ rowOf 4 (λ q. inRow shared q && not (inRow alone q)) ++ drop 4 shared → Parted n P (inRow shared′)
 parted-minus n P shared alone shared′ small parts singles e = record {
-  sym = parts .sym;
-  loop = parts .loop;
+  classes = parts .classes;
   single = λ g h hg hh out p. go g h hg hh p (inRow shared g) refl (inRow alone g) refl (sym (at g hg) ∙ out);
 }
   where

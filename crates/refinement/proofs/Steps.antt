@@ -2,7 +2,6 @@
 use Prim.Native.Nat.{ℕ, _*_, _≤_, _<_}
 use native.Mathlib.Omega.{arith}
 use mathlib.Core.Path.{_≡_, refl, sym, _∙_, ap, ap₂, subst}
-use mathlib.Core.Logic.{inl, inr}
 use mathlib.Core.Bool.{Bool, true, false, cond, not, _&&_, _||_}
 use mathlib.Core.List.{List, _++_}
 use lib.Dec.{T}
@@ -18,17 +17,13 @@ use Rattle.lts.proofs.Table.{table-formed}
 use Rattle.relation.specs.Matrix.{inRow, rowOf, statesBelow, relationOf, matrixOf}
 use Rattle.relation.proofs.Rows.{inRow-of, inRow-written}
 use Rattle.relation.proofs.Matrices.{states-in, states-out, relation-of, matrixOf-cong}
-use Rattle.predecessors.specs.Sources.{Linked, sourcesInto, actionSet, removeSet}
-use Rattle.predecessors.proofs.Laws.{table-numbers, action-set-into, remove-set-is, remove-enabled}
+use Rattle.predecessors.specs.Sources.{Keyed, keysInto, sourcesInto, actionSet}
+use Rattle.predecessors.proofs.Laws.{action-set-into, remove-set-is}
 use Rattle.predecessors.proofs.Tables.{into-cong}
 use Rattle.splitting.proofs.Laws.{hit-free}
-use Rattle.refinement.specs.Engine.{heldBy, relationsOf, acted, Steady, Untouched, Unmoved, IntoOutside}
+use Rattle.refinement.specs.Engine.{heldBy, relationsOf, acted, Steady, Untouched, Unmoved}
 use Rattle.refinement.proofs.Laws.{held-at, block-held}
 use Rattle.refinement.proofs.Actions.{acted-related, acted-blocks}
-
--- a row of states holds nothing from n on
-pub row-out : (n : ℕ) (S : Set) (row : List ℕ) → row ≡ rowOf 4 (statesBelow n S) → (q : ℕ) → n ≤ q → q < 256 → inRow row q ≡ false
-row-out n S row e q l h = ap (λ (l : List ℕ). inRow l q) e ∙ inRow-of 4 (statesBelow n S) q h ∙ states-out n S q l
 
 -- N, from the rows of V and K
 pub outside-row : (n : ℕ) (S : Set) (whole inside outside : List ℕ) → n ≤ 256 → whole ≡ rowOf 4 (statesBelow n S)
@@ -96,20 +91,14 @@ module _ (n m k : ℕ) (sources actions targets : List ℕ) (tab : Table n m k s
   unfolding relationsOf
   in-outside q h = outside-is q h ∙ ap₂ (λ (x y : Bool). x && not y) (sym (held-at n viewed b q low h)) (in-inside q h)
 
-  -- the sets of all sources make the same Rem as those into N, where V has every state
-  pub step-outside : {head link enabled seen into-outside into-inside : List ℕ} → Linked k targets head link → enabled ≡ rowOf 260 (sourcesInto k sources actions targets (λ t. true))
-      → seen ≡ rowOf 4 (statesBelow n (relationOf n viewed b)) → into-inside ≡ rowOf 260 (sourcesInto k sources actions targets (inRow inside))
-      → IntoOutside n sources actions head link enabled seen outside into-outside
-      → (a q : ℕ) → a ≤ 64 → q < 256 → removeSet into-outside into-inside a q ≡ removeSet (rowOf 260 (sourcesInto k sources actions targets (inRow outside))) into-inside a q
-  step-outside {into-inside = inner} linked all seen-is inside-into (inr into) a q ha hq =
-      ap (λ (l : List ℕ). removeSet l inner a q) (into k targets (table-numbers tab) linked)
-  step-outside {seen = seen} {into-inside = inner} linked all seen-is inside-into (inl full) a q ha hq =
-      ap (λ (l : List ℕ). removeSet l inner a q) (full .1)
-      ∙ remove-enabled k sources actions targets (inRow outside) (inRow inside) (λ i h.
+  -- N and Y have all targets where V has every state
+  pub step-targets : {seen : List ℕ} → seen ≡ rowOf 4 (statesBelow n (relationOf n viewed b)) → countBelow (4 * 64) (inRow seen) ≡ n
+      → (i : ℕ) → i < k → inRow outside (getD targets i 0) || inRow inside (getD targets i 0) ≡ true
+  step-targets {seen} seen-is full i h =
       let t = getD targets i 0 in
       let ht : t < n = tab .target i h in
-      ap (λ (b : Bool). b || inRow inside t) (outside-is t ht ∙ ap (λ (b : Bool). b && not (inRow inside t)) (all-seen n (relationOf n viewed b) seen (tab .states) seen-is (full .0) t ht))
-      ∙ either (inRow inside t)) all refl inside-into a q ha hq
+      ap (λ (b : Bool). b || inRow inside t) (outside-is t ht ∙ ap (λ (b : Bool). b && not (inRow inside t)) (all-seen n (relationOf n viewed b) seen (tab .states) seen-is full t ht))
+      ∙ either (inRow inside t)
 
   -- the rows outside what the step touched
   pub step-unmoved : {touched touched′ related′ viewed′ blocks′ : List ℕ} → touched ≡ members → Untouched n related blocks touched related′ blocks′ touched′
@@ -128,18 +117,16 @@ module _ (n m k : ℕ) (sources actions targets : List ℕ) (tab : Table n m k s
   step-viewed viewed′ e = e ∙ matrixOf-cong n _ _ (λ g h l u. rw (in-members g l, in-inside h u, held-at n viewed g h l u))
 
   -- K and its blocks
-  module _ (steady : Steady L b s) (into-outside into-inside into-members : List ℕ)
-      (outside-into : (a q : ℕ) → a ≤ 64 → q < 256 → removeSet into-outside into-inside a q ≡ removeSet (rowOf 260 (sourcesInto k sources actions targets (inRow outside))) into-inside a q)
-      (inside-into : into-inside ≡ rowOf 260 (sourcesInto k sources actions targets (inRow inside)))
+  module _ (steady : Steady L b s) (keys : List ℕ) (keyed : Keyed k sources actions keys) (removed into-members : List ℕ)
+      (removed-is : removed ≡ rowOf 260 (λ x. keysInto k keys targets (inRow outside) x && not (keysInto k keys targets (inRow inside) x)))
       (members-into : into-members ≡ rowOf 260 (sourcesInto k sources actions targets (inRow members))) where
     below : (q : ℕ) → q < n → q < 256
     below q h = let l = tab .states in omega (arith, l, h)
 
-    rem : (a q : ℕ) → a ≤ m → q < n → removeSet into-outside into-inside a q ≡ remove L a Y N q
+    rem : (a q : ℕ) → a ≤ m → q < n → actionSet removed a q ≡ remove L a Y N q
     unfolding remove
     rem a q l h =
-        outside-into a q (let u = tab .labels in omega (arith, l, u)) (below q h)
-        ∙ remove-set-is tab (inRow inside) (inRow outside) a q refl inside-into (let u = tab .labels in omega (arith, l, u)) (below q h)
+        remove-set-is tab keyed (inRow inside) (inRow outside) a q removed-is (let u = tab .labels in omega (arith, l, u)) (below q h)
         ∙ ap₂ (λ (x y : Bool). x && not y) (into-cong tab (inRow outside) N in-outside a q) (into-cong tab (inRow inside) Y in-inside a q)
 
     hits : (a q : ℕ) → a ≤ m → q < n → actionSet into-members a q ≡ into L a B q
@@ -150,14 +137,21 @@ module _ (n m k : ℕ) (sources actions targets : List ℕ) (tab : Table n m k s
     free : (a x : ℕ) → T (into L a B x) → T (remove L a Y N x) → ⊥
     free a = hit-free (table-formed n m k sources actions targets tab) B Y N a (λ q t. block-iff (s .related) b q .0 t .0)
 
-    pub step-related : (related′ : List ℕ) → related′ ≡ matrixOf n (acted n into-outside into-inside into-members m related blocks .related)
+    pub step-free : (a x : ℕ) → a ≤ m → x < n → actionSet into-members a x ≡ true → actionSet removed a x ≡ false
+    step-free a x l h e = go (actionSet removed a x) refl
+      where
+        go : (b : Bool) → actionSet removed a x ≡ b → b ≡ false
+        go false r = refl
+        go true r = absurd (free a x (subst T (sym e ∙ hits a x l h) tt) (subst T (sym r ∙ rem a x l h) tt))
+
+    pub step-related : (related′ : List ℕ) → related′ ≡ matrixOf n (acted n removed into-members m related blocks .related)
         → related′ ≡ matrixOf n (stepOf L b s .related)
     unfolding stepOf tableLts relationsOf
-    step-related related′ e = e ∙ acted-related L B Y N (s .related) into-outside into-inside into-members _ (steady .during) free rem hits
+    step-related related′ e = e ∙ acted-related L B Y N (s .related) removed into-members _ (steady .during) free rem hits
         (λ p q l u. sym (held-at n related p q l u)) (λ p q l u. relation-of n _ blocks-is p q l u ∙ block-held n related p q l u)
 
-    pub step-blocks : (blocks′ : List ℕ) → blocks′ ≡ matrixOf n (acted n into-outside into-inside into-members m related blocks .blocks)
+    pub step-blocks : (blocks′ : List ℕ) → blocks′ ≡ matrixOf n (acted n removed into-members m related blocks .blocks)
         → blocks′ ≡ matrixOf n (block (stepOf L b s .related))
     unfolding stepOf tableLts relationsOf
-    step-blocks blocks′ e = e ∙ acted-blocks L B Y N (s .related) into-outside into-inside into-members _ (steady .during) free rem hits
+    step-blocks blocks′ e = e ∙ acted-blocks L B Y N (s .related) removed into-members _ (steady .during) free rem hits
         (λ p q l u. sym (held-at n related p q l u)) (λ p q l u. relation-of n _ blocks-is p q l u ∙ block-held n related p q l u)

@@ -2,17 +2,17 @@
 use Prim.Native.Nat.{ℕ, zero, suc, _*_, _<_}
 use mathlib.Core.Logic.{_⊎_}
 use mathlib.Core.Path.{_≡_}
-use mathlib.Core.Bool.{false, not, _&&_}
+use mathlib.Core.Bool.{true, false, not, _&&_, _||_}
 use mathlib.Core.List.{List}
 use lib.Dec.{T}
-use lib.ListN.{length}
-use Rattle.lts.specs.Bounded.{restrict, countBelow}
-use Rattle.lts.specs.System.{Rel, Lts}
+use lib.ListN.{length, getD}
+use Rattle.lts.specs.Bounded.{restrict, anyBelow, countBelow}
+use Rattle.lts.specs.System.{Set, Rel, Lts}
 use Rattle.lts.specs.Refinement.{Relations, block, refine, eachAction, stepOf}
 use Rattle.lts.specs.Table.{tableLts}
 use Rattle.lts.proofs.Refine.{Blocks}
 use Rattle.lts.proofs.Run.{Reached}
-use Rattle.predecessors.specs.Sources.{Numbers, Linked, sourcesInto, actionSet, removeSet}
+use Rattle.predecessors.specs.Sources.{Fits, Linked, Chains, keysInto, actionSet}
 use Rattle.splitting.specs.Split.{splitBlocks, refinedRelated}
 use Rattle.relation.specs.Matrix.{inRow, rowOf, relationOf, matrixOf, Matrix}
 
@@ -27,21 +27,29 @@ relationsOf n related viewed = record { related = heldBy n related; viewed = hel
 abbrev pub stepped : ℕ → ℕ → ℕ → List ℕ → List ℕ → List ℕ → ℕ → List ℕ → List ℕ → Relations
 stepped n m k sources actions targets b related viewed = stepOf (tableLts n m k sources actions targets) b (relationsOf n related viewed)
 
--- K and its blocks after the actions 1 to j by rows, from the sets "into N", "into Y" and "into B" of every action
+-- K and its blocks after the actions 1 to j by rows, from the sets Rem and "into B" of every action
 pub record Refined : Type 0 where
   pub related : Rel
   pub blocks : Rel
 
-unfoldable pub actionsTo : ℕ → List ℕ → List ℕ → List ℕ → ℕ → Refined → Refined
-actionsTo n outside inside members zero r = r
-actionsTo n outside inside members (suc j) r =
-    let s = actionsTo n outside inside members j r in
-    let Rem = removeSet outside inside (suc j) in
+unfoldable pub actionsTo : ℕ → List ℕ → List ℕ → ℕ → Refined → Refined
+actionsTo n removed members zero r = r
+actionsTo n removed members (suc j) r =
+    let s = actionsTo n removed members j r in
+    let Rem = actionSet removed (suc j) in
     record { related = refinedRelated n Rem (actionSet members (suc j)) (s .related) (s .blocks); blocks = splitBlocks Rem (s .blocks) }
 
-abbrev pub acted : ℕ → List ℕ → List ℕ → List ℕ → ℕ → List ℕ → List ℕ → Refined
-acted n outside inside members j related blocks =
-    actionsTo n outside inside members j (record { related = relationOf n related; blocks = relationOf n blocks })
+abbrev pub acted : ℕ → List ℕ → List ℕ → ℕ → List ℕ → List ℕ → Refined
+acted n removed members j related blocks =
+    actionsTo n removed members j (record { related = relationOf n related; blocks = relationOf n blocks })
+
+-- K without the pairs of `rows` and Rem
+abbrev pub without : Set → Set → Rel → Rel
+without rows Rem K g h = K g h && not (rows g && Rem h)
+
+-- `rows` are the states outside Rem whose block has a hit
+abbrev pub HitRows : ℕ → Set → Set → Rel → Set → Type 0
+HitRows n Rem Hits P rows = (g : ℕ) → g < n → rows g ≡ anyBelow n (λ x. P g x && Hits x) && not (Rem g)
 
 -- After a part of a step K and its blocks have, at each state outside `touched`, the rows that they had before it; `touched` has grown.
 pub record Untouched (n : ℕ) (related blocks touched related′ blocks′ touched′ : List ℕ) : Type 0 where
@@ -56,11 +64,18 @@ pub record Unmoved (n : ℕ) (touched related viewed blocks related′ viewed′
   pub viewed-same : (g h : ℕ) → g < n → h < n → inRow touched g ≡ false → relationOf n viewed′ g h ≡ relationOf n viewed g h
   pub blocks-same : (g h : ℕ) → g < n → h < n → inRow touched g ≡ false → relationOf n blocks′ g h ≡ relationOf n blocks g h
 
--- the sets are those of the sources into `outside`, or the given ones where `seen` has n states
-abbrev pub IntoOutside : ℕ → List ℕ → List ℕ → List ℕ → List ℕ → List ℕ → List ℕ → List ℕ → List ℕ → Type 0
-IntoOutside n sources actions head link enabled seen outside r =
-    ((countBelow (4 * 64) (inRow seen) ≡ n) × (r ≡ enabled))
-    ⊎ ((k : ℕ) (targets : List ℕ) → Numbers k sources actions targets → Linked k targets head link → r ≡ rowOf 260 (sourcesInto k sources actions targets (inRow outside)))
+-- added are the keys of the transitions into `outside`, or all where `seen` has n states
+abbrev pub OutsideAdded : ℕ → List ℕ → List ℕ → List ℕ → List ℕ → List ℕ → List ℕ → List ℕ → List ℕ → Type 0
+OutsideAdded n keys head link enabled seen outside out out′ =
+    ((countBelow (4 * 64) (inRow seen) ≡ n) × (out′ ≡ rowOf 260 (λ x. inRow out x || inRow enabled x)))
+    ⊎ ((k : ℕ) (targets : List ℕ) → Fits k keys targets → Linked 256 k targets head link → out′ ≡ rowOf 260 (λ x. inRow out x || keysInto k keys targets (inRow outside) x))
+
+-- the keys of the transitions into `outside` of which none goes into `inside`, where these two have all targets if `seen` has n states
+abbrev pub RemovedBy : ℕ → List ℕ → List ℕ → List ℕ → List ℕ → List ℕ → List ℕ → List ℕ → List ℕ → List ℕ → List ℕ → List ℕ → Type 0
+RemovedBy n keys targets head link first next enabled seen outside inside r =
+    (k : ℕ) → Chains k keys targets head link first next → enabled ≡ rowOf 260 (keysInto k keys targets (λ t. true))
+    → (countBelow (4 * 64) (inRow seen) ≡ n → (i : ℕ) → i < k → inRow outside (getD targets i 0) || inRow inside (getD targets i 0) ≡ true)
+    → r ≡ rowOf 260 (λ x. keysInto k keys targets (inRow outside) x && not (keysInto k keys targets (inRow inside) x))
 
 -- K has blocks after each action of the step of p's block
 pub record Steady (L : Lts) (p : ℕ) (s : Relations) : Type 0 where

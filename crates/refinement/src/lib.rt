@@ -1,73 +1,75 @@
 // The refinement engine (document 01, "Turns") on a transition table: the relations K and V and the blocks of K are bit matrices, and a
 // refinement step works on their words.
 ghost use mathlib.Core.Path.{_≡_};
-ghost use mathlib.Core.Bool.{true, _&&_};
-ghost use Prim.Native.Nat.{_*_, _<_, _≤_};
-ghost use lib.ListN.{length};
+ghost use mathlib.Core.Bool.{true, false};
+ghost use mathlib.Core.List.{List};
+ghost use Prim.Native.Nat.{ℕ, _*_, _<_, _≤_};
+ghost use lib.ListN.{length, replicate};
 ghost use Rattle.lts.specs.Refinement.{block, coarsest};
 ghost use Rattle.lts.specs.Table.{tableLts, Table};
 ghost use Rattle.relation.specs.Matrix.{inRow, rowOf, rowWords, relationOf, matrixOf, Matrix};
-ghost use Rattle.predecessors.specs.Sources.{Linked, Chained, sourcesInto, actionSet, removeSet};
-ghost use Rattle.splitting.specs.Split.{splitRelated, splitBlocks, pruneRelated, refinedRelated, Parted};
-ghost use Rattle.refinement.specs.Engine.{acted, relationsOf, stepped, Steady, Start, Untouched, Unmoved, IntoOutside};
+ghost use Rattle.predecessors.specs.Sources.{Keyed, IntoStates, Chains, keysInto, actionSet};
+ghost use Rattle.splitting.specs.Split.{splitRelated, splitBlocks, refinedRelated, Equivalence, Parted};
+ghost use Rattle.refinement.specs.Engine.{acted, relationsOf, stepped, Steady, Start, Untouched, Unmoved, without, HitRows, OutsideAdded, RemovedBy};
 
-// The states that two sets have in common.
-fn common_states(a: &[u64; 4], b: &[u64; 4]) -> [u64; 4]
-    ensures { λ r. ⌜ r ≡ rowOf 4 (λ q. inRow (now (a .entry)) q && inRow (now (b .entry)) q) ⌝ }
+// The rows of K that Rem is pruned from: those of the blocks with a hit. A hit is not in Rem, so the split leaves them in one block.
+fn hit_rows(n: usize, rem: &[u64; 4], hits: &[u64], blocks: &[u64]) -> [u64; 4]
+    requires { ⌜ (n ≤ 256) × Matrix n (now blocks) × (4 ≤ length (now hits)) × Equivalence n (relationOf n (now blocks)) ⌝ }
+    ensures { λ r. ⌜ HitRows n (inRow (now (rem .entry))) (inRow (now (hits .entry))) (relationOf n (now (blocks .entry))) (inRow r) ⌝ }
 {
-    let mut out = [0u64; 4];
-    relation::row_copy(&mut out, a, 4);
-    relation::row_intersect(&mut out, b, 4);
-    out
+    if !relation::row_any(hits, 4) {
+        return [0u64; 4];
+    }
+    let mut rows = splitting::meeting_rows(blocks, n, hits);
+    relation::row_minus(&mut rows, rem, 4);
+    rows
 }
 
-// The split of K and of its blocks by Rem. Adds the rows that it can change to `touched`.
+// Drops Rem from the rows of K that have a hit. Adds them to `touched`.
+fn prune_by(n: usize, rem: &[u64; 4], hit: &[u64; 4], related: &mut [u64], touched: &mut [u64])
+    requires { ⌜ (n ≤ 256) × Matrix n (now related) × (length (now touched) ≡ 4) ⌝ }
+    ensures { λ _. ⌜ now (related .exit) ≡ matrixOf n (without (inRow (now (hit .entry))) (inRow (now (rem .entry))) (relationOf n (now (related .entry)))) ⌝ }
+    ensures { λ _. ⌜ ((blocks : List ℕ) → Untouched n (now (related .entry)) blocks (now (touched .entry)) (now (related .exit)) blocks (now (touched .exit))) ⌝ }
+{
+    if relation::row_any(hit, 4) {
+        splitting::remove_from(related, n, rem, hit);
+        relation::row_union(touched, hit, 4);
+    }
+}
+
+// The split of K and of its blocks by Rem, where K has no pair into Rem in a row of `hit`. Adds the rows that it can change to `touched`.
 fn split_by(
     n: usize,
     rem: &[u64; 4],
     shared: &[u64; 4],
+    hit: &[u64; 4],
     related: &mut [u64],
     blocks: &mut [u64],
     touched: &mut [u64],
 )
     requires { ⌜ (n ≤ 256) × Matrix n (now related) × Matrix n (now blocks) × Parted n (relationOf n (now blocks)) (inRow (now shared)) × (length (now touched) ≡ 4) ⌝ }
+    requires { ⌜ ((g h : ℕ) → g < n → h < n → inRow (now hit) g ≡ true → relationOf n (now related) g h ≡ true → inRow (now rem) h ≡ false) ⌝ }
     ensures { λ _. ⌜ now (related .exit) ≡ matrixOf n (splitRelated (inRow (now (rem .entry))) (relationOf n (now (related .entry))) (relationOf n (now (blocks .entry)))) ⌝ }
     ensures { λ _. ⌜ now (blocks .exit) ≡ matrixOf n (splitBlocks (inRow (now (rem .entry))) (relationOf n (now (blocks .entry)))) ⌝ }
     ensures { λ _. ⌜ Untouched n (now (related .entry)) (now (blocks .entry)) (now (touched .entry)) (now (related .exit)) (now (blocks .exit)) (now (touched .exit)) ⌝ }
     ensures { λ _. ⌜ Parted n (relationOf n (now (blocks .exit))) (inRow (now (shared .entry))) ⌝ }
 {
-    let split = common_states(rem, shared);
-    let rows = splitting::meeting_rows(blocks, n, &split);
-    splitting::split_related(related, blocks, n, rem, &rows);
-    splitting::split_blocks(blocks, n, rem, &rows);
-    relation::row_union(touched, &rows, 4);
+    let rows = splitting::split_rows(blocks, n, shared, rem);
+    if relation::row_any(&rows, 4) {
+        let mut rest = [0u64; 4];
+        relation::row_copy(&mut rest, &rows, 4);
+        relation::row_minus(&mut rest, hit, 4);
+        splitting::split_related(related, blocks, n, rem, &rest);
+        splitting::split_blocks(blocks, n, rem, &rows);
+        relation::row_union(touched, &rows, 4);
+    }
 }
 
-// Drops from K what Rem refutes over the blocks with a hit. Adds the rows that it can change to `touched`.
-fn prune_by(
-    n: usize,
-    rem: &[u64; 4],
-    hits: &[u64],
-    shared: &[u64; 4],
-    related: &mut [u64],
-    blocks: &[u64],
-    touched: &mut [u64],
-)
-    requires { ⌜ (n ≤ 256) × Matrix n (now related) × Matrix n (now blocks) × (4 ≤ length (now hits)) × Parted n (relationOf n (now blocks)) (inRow (now shared)) × (length (now touched) ≡ 4) ⌝ }
-    ensures { λ _. ⌜ now (related .exit) ≡ matrixOf n (pruneRelated n (inRow (now (rem .entry))) (inRow (now (hits .entry))) (relationOf n (now (related .entry))) (relationOf n (now (blocks .entry)))) ⌝ }
-    ensures { λ _. ⌜ Untouched n (now (related .entry)) (now (blocks .entry)) (now (touched .entry)) (now (related .exit)) (now (blocks .entry)) (now (touched .exit)) ⌝ }
-{
-    let rows = splitting::meeting_rows(blocks, n, hits);
-    splitting::prune_related(related, blocks, n, rem, hits, &rows);
-    relation::row_union(touched, &rows, 4);
-}
-
-// One action of a step: Rem, the split of the blocks by it, and the pairs that it refutes over the new blocks.
+// One action of a step: Rem, the pairs that it refutes over the blocks with a hit, and the split of the blocks by it.
 fn refine_action(
     n: usize,
     a: usize,
-    outside: &[u64; 260],
-    inside: &[u64; 260],
+    removed: &[u64; 260],
     members: &[u64; 260],
     shared: &[u64; 4],
     related: &mut [u64],
@@ -75,23 +77,17 @@ fn refine_action(
     touched: &mut [u64],
 )
     requires { ⌜ (n ≤ 256) × (a ≤ 64) × Matrix n (now related) × Matrix n (now blocks) × Parted n (relationOf n (now blocks)) (inRow (now shared)) × (length (now touched) ≡ 4) ⌝ }
-    ensures { λ _. ⌜ now (related .exit) ≡ matrixOf n (refinedRelated n (removeSet (now (outside .entry)) (now (inside .entry)) a) (actionSet (now (members .entry)) a) (relationOf n (now (related .entry))) (relationOf n (now (blocks .entry)))) ⌝ }
-    ensures { λ _. ⌜ now (blocks .exit) ≡ matrixOf n (splitBlocks (removeSet (now (outside .entry)) (now (inside .entry)) a) (relationOf n (now (blocks .entry)))) ⌝ }
+    requires { ⌜ ((x : ℕ) → x < n → actionSet (now members) a x ≡ true → actionSet (now removed) a x ≡ false) ⌝ }
+    ensures { λ _. ⌜ now (related .exit) ≡ matrixOf n (refinedRelated n (actionSet (now (removed .entry)) a) (actionSet (now (members .entry)) a) (relationOf n (now (related .entry))) (relationOf n (now (blocks .entry)))) ⌝ }
+    ensures { λ _. ⌜ now (blocks .exit) ≡ matrixOf n (splitBlocks (actionSet (now (removed .entry)) a) (relationOf n (now (blocks .entry)))) ⌝ }
     ensures { λ _. ⌜ Untouched n (now (related .entry)) (now (blocks .entry)) (now (touched .entry)) (now (related .exit)) (now (blocks .exit)) (now (touched .exit)) ⌝ }
     ensures { λ _. ⌜ Parted n (relationOf n (now (blocks .exit))) (inRow (now (shared .entry))) ⌝ }
 {
-    let rem = predecessors::remove_set(outside, inside, a);
+    let rem = predecessors::action_set(removed, a);
     if relation::row_any(&rem, 4) {
-        split_by(n, &rem, shared, related, blocks, touched);
-        prune_by(
-            n,
-            &rem,
-            predecessors::action_part(members, a),
-            shared,
-            related,
-            blocks,
-            touched,
-        );
+        let hit = hit_rows(n, &rem, relation::action_part(members, a), blocks);
+        prune_by(n, &rem, &hit, related, touched);
+        split_by(n, &rem, shared, &hit, related, blocks, touched);
     }
 }
 
@@ -99,8 +95,7 @@ fn refine_action(
 fn refine_actions(
     n: usize,
     m: usize,
-    outside: &[u64; 260],
-    inside: &[u64; 260],
+    removed: &[u64; 260],
     members: &[u64; 260],
     shared: &[u64; 4],
     related: &mut [u64],
@@ -108,46 +103,67 @@ fn refine_actions(
     touched: &mut [u64],
 )
     requires { ⌜ (n ≤ 256) × (m ≤ 64) × Matrix n (now related) × Matrix n (now blocks) × Parted n (relationOf n (now blocks)) (inRow (now shared)) × (length (now touched) ≡ 4) ⌝ }
-    ensures { λ _. ⌜ now (related .exit) ≡ matrixOf n (acted n (now (outside .entry)) (now (inside .entry)) (now (members .entry)) m (now (related .entry)) (now (blocks .entry)) .related) ⌝ }
-    ensures { λ _. ⌜ now (blocks .exit) ≡ matrixOf n (acted n (now (outside .entry)) (now (inside .entry)) (now (members .entry)) m (now (related .entry)) (now (blocks .entry)) .blocks) ⌝ }
+    requires { ⌜ ((a x : ℕ) → a ≤ m → x < n → actionSet (now members) a x ≡ true → actionSet (now removed) a x ≡ false) ⌝ }
+    ensures { λ _. ⌜ now (related .exit) ≡ matrixOf n (acted n (now (removed .entry)) (now (members .entry)) m (now (related .entry)) (now (blocks .entry)) .related) ⌝ }
+    ensures { λ _. ⌜ now (blocks .exit) ≡ matrixOf n (acted n (now (removed .entry)) (now (members .entry)) m (now (related .entry)) (now (blocks .entry)) .blocks) ⌝ }
     ensures { λ _. ⌜ Untouched n (now (related .entry)) (now (blocks .entry)) (now (touched .entry)) (now (related .exit)) (now (blocks .exit)) (now (touched .exit)) ⌝ }
     ensures { λ _. ⌜ Parted n (relationOf n (now (blocks .exit))) (inRow (now (shared .entry))) ⌝ }
 {
     let mut a = 0;
     while a < m {
-        refine_action(
-            n,
-            a + 1,
-            outside,
-            inside,
-            members,
-            shared,
-            related,
-            blocks,
-            touched,
-        );
+        refine_action(n, a + 1, removed, members, shared, related, blocks, touched);
         a += 1;
     }
 }
 
-// The sets of the sources into N or, where V has all states, into any state: they make the same Rem.
-fn sources_outside(
+// Adds the keys of the transitions into N or, where V has all states, of all: they make the same Rem.
+fn add_outside(
     n: usize,
-    sources: &[u16; 1024],
-    actions: &[u8; 1024],
+    keys: &[u16; 1024],
     head: &[u16; 256],
     link: &[u16; 1024],
     enabled: &[u64; 260],
     seen: &[u64; 4],
     outside: &[u64; 4],
-) -> [u64; 260]
-    requires { ⌜ Chained (now sources) (now actions) (now head) (now link) ⌝ }
-    ensures { λ r. ⌜ IntoOutside n (now (sources .entry)) (now (actions .entry)) (now (head .entry)) (now (link .entry)) (now (enabled .entry)) (now (seen .entry)) (now (outside .entry)) r ⌝ }
+    out: &mut [u64],
+)
+    requires { ⌜ IntoStates (now keys) (now head) (now link) × (length (now out) ≡ 260) ⌝ }
+    ensures { λ _. ⌜ OutsideAdded n (now (keys .entry)) (now (head .entry)) (now (link .entry)) (now (enabled .entry)) (now (seen .entry)) (now (outside .entry)) (now (out .entry)) (now (out .exit)) ⌝ }
 {
     if relation::row_count(seen, 4) == n {
-        return *enabled;
+        relation::row_union(out, enabled, 260);
+        return;
     }
-    predecessors::sources_into(sources, actions, head, link, outside)
+    predecessors::add_sources(keys, head, link, outside, out);
+}
+
+// Writes Rem of every action, as keys. Where N is small each transition into it is held to Y, and else the sources into Y are taken
+// from those into N.
+fn write_removed(
+    n: usize,
+    keys: &[u16; 1024],
+    targets: &[u16; 1024],
+    head: &[u16; 256],
+    link: &[u16; 1024],
+    first: &[u16; 16640],
+    next: &[u16; 1024],
+    enabled: &[u64; 260],
+    seen: &[u64; 4],
+    outside: &[u64; 4],
+    inside: &[u64; 4],
+    out: &mut [u64],
+)
+    requires { ⌜ ((k : ℕ) × Chains k (now keys) (now targets) (now head) (now link) (now first) (now next)) × (now out ≡ replicate 260 0) ⌝ }
+    ensures { λ _. ⌜ RemovedBy n (now (keys .entry)) (now (targets .entry)) (now (head .entry)) (now (link .entry)) (now (first .entry)) (now (next .entry)) (now (enabled .entry)) (now (seen .entry)) (now (outside .entry)) (now (inside .entry)) (now (out .exit)) ⌝ }
+{
+    if 4 * relation::row_count(outside, 4) <= relation::row_count(inside, 4) + 16 {
+        predecessors::add_removed(keys, targets, head, link, first, next, outside, inside, out);
+        return;
+    }
+    let mut into_inside = [0u64; 260];
+    predecessors::add_sources(keys, head, link, inside, &mut into_inside);
+    add_outside(n, keys, head, link, enabled, seen, outside, out);
+    relation::row_minus(out, &into_inside, 260);
 }
 
 // The refinement step of the block of b. Gives the states at which a row of K, V or the blocks can have changed.
@@ -158,8 +174,11 @@ fn refine_step(
     sources: &[u16; 1024],
     actions: &[u8; 1024],
     targets: &[u16; 1024],
+    keys: &[u16; 1024],
     head: &[u16; 256],
     link: &[u16; 1024],
+    first: &[u16; 16640],
+    next: &[u16; 1024],
     enabled: &[u64; 260],
     shared: &[u64; 4],
     b: usize,
@@ -167,7 +186,7 @@ fn refine_step(
     viewed: &mut [u64],
     blocks: &mut [u64],
 ) -> [u64; 4]
-    requires { ⌜ Table n m k (now sources) (now actions) (now targets) × Linked k (now targets) (now head) (now link) × (now enabled ≡ rowOf 260 (sourcesInto k (now sources) (now actions) (now targets) (λ t. true))) × Matrix n (now related) × Matrix n (now viewed) × (b < n) × Parted n (relationOf n (now blocks)) (inRow (now shared)) ⌝ }
+    requires { ⌜ Table n m k (now sources) (now actions) (now targets) × Keyed k (now sources) (now actions) (now keys) × Chains k (now keys) (now targets) (now head) (now link) (now first) (now next) × (now enabled ≡ rowOf 260 (keysInto k (now keys) (now targets) (λ t. true))) × Matrix n (now related) × Matrix n (now viewed) × (b < n) × Parted n (relationOf n (now blocks)) (inRow (now shared)) ⌝ }
     requires { ⌜ now blocks ≡ matrixOf n (block (relationOf n (now related))) ⌝ }
     requires { ⌜ Steady (tableLts n m k (now sources) (now actions) (now targets)) b (relationsOf n (now related) (now viewed)) ⌝ }
     ensures { λ _. ⌜ now (related .exit) ≡ matrixOf n (stepped n m k (now (sources .entry)) (now (actions .entry)) (now (targets .entry)) b (now (related .entry)) (now (viewed .entry)) .related) ⌝ }
@@ -182,15 +201,28 @@ fn refine_step(
     let mut outside = splitting::row_set(viewed, n, b);
     relation::row_minus(&mut outside, &inside, 4);
     splitting::set_views(viewed, n, &members, &inside);
-    let into_outside = sources_outside(n, sources, actions, head, link, enabled, &seen, &outside);
-    let into_inside = predecessors::sources_into(sources, actions, head, link, &inside);
-    let into_members = predecessors::sources_into(sources, actions, head, link, &members);
+    let mut removed = [0u64; 260];
+    write_removed(
+        n,
+        keys,
+        targets,
+        head,
+        link,
+        first,
+        next,
+        enabled,
+        &seen,
+        &outside,
+        &inside,
+        &mut removed,
+    );
+    let mut into_members = [0u64; 260];
+    predecessors::add_sources(keys, head, link, &members, &mut into_members);
     let mut touched = splitting::row_set(blocks, n, b);
     refine_actions(
         n,
         m,
-        &into_outside,
-        &into_inside,
+        &removed,
         &into_members,
         shared,
         related,
@@ -229,10 +261,15 @@ pub fn refine_all(
     ensures { λ r. ⌜ now (related .exit) ≡ matrixOf n (coarsest (tableLts n m k (now (sources .entry)) (now (actions .entry)) (now (targets .entry))) (relationOf n (now (start .entry))) (now (schedule .entry)) .final .related) ⌝ }
     ensures { λ r. ⌜ now (blocks .exit) ≡ matrixOf n (block (coarsest (tableLts n m k (now (sources .entry)) (now (actions .entry)) (now (targets .entry))) (relationOf n (now (start .entry))) (now (schedule .entry)) .final .related)) ⌝ }
 {
+    let mut keys = [0u16; 1024];
     let mut head = [0u16; 256];
     let mut link = [0u16; 1024];
+    let mut first = [0u16; 16640];
+    let mut next = [0u16; 1024];
+    predecessors::write_keys(k, sources, actions, &mut keys);
     predecessors::link_transitions(k, targets, &mut head, &mut link);
-    let enabled = predecessors::enabled_sources(sources, actions, &head, &link);
+    predecessors::link_transitions(k, &keys, &mut first, &mut next);
+    let enabled = predecessors::enabled_sources(&keys, &head, &link);
     predecessors::write_initial(n, k, sources, actions, &enabled, start, related);
     relation::write_all_pairs(n, viewed);
     partition::write_blocks(related, n, blocks);
@@ -252,8 +289,11 @@ pub fn refine_all(
             sources,
             actions,
             targets,
+            &keys,
             &head,
             &link,
+            &first,
+            &next,
             &enabled,
             &shared,
             b,

@@ -18,7 +18,7 @@ use Rattle.lts.specs.declared.Refusal.the-variants.{Grid, NotReflexive, NotTran
 use Rattle.lts.specs.System.{Lts, allStates, reflexive, transitive}
 use Rattle.lts.specs.Bounded.{lowest, anyBelow, allBelow, _⇒_}
 use Rattle.relation.proofs.Bits.{word-ext, bit-of-zero, word-zero}
-use Rattle.relation.proofs.Rows.{Bitwise, inRow-at}
+use Rattle.relation.proofs.Rows.{Bitwise, inRow-at, zip-joined}
 use Rattle.relation.proofs.Bounded.{any-cong, any-shorter, lowest-cong, lowest-shorter, all-at, all-cong, all-of, all-shorter, all-yes, and-fst, and-snd, bool-iff, clash, lt-or-ge, any-yes, any-no, any-some, either, all-not, true-T}
 use Rattle.relation.proofs.Counts.{trailing-lt, trailing-at}
 use Rattle.relation.proofs.Matrices.{inRow-drop, inMatrix-at, pair-word, width-positive}
@@ -35,7 +35,7 @@ block-more P c t below here q h =
 
 module _ (op : ℕ → ℕ → ℕ) (β : Bool → Bool → Bool) (ok : Bitwise op β) (a b : List ℕ) (c : ℕ) (ha : getD a c 0 < 2 ^ 64) (hb : getD b c 0 < 2 ^ 64) where
   at-bit : (i : ℕ) → i < 64 → β (inRow a (c * 64 + i)) (inRow b (c * 64 + i)) ≡ bit (op (getD a c 0) (getD b c 0)) i
-  at-bit i l = ap₂ β (inRow-at a c i l) (inRow-at b c i l) ∙ sym (ok .bits _ _ i ha hb l)
+  at-bit i l = sym (zip-joined op β ok a b c ha hb i l)
 
   -- it is not: some member is found
   pub word-found : (k : ℕ) → c < k → (op (getD a c 0) (getD b c 0) ≡ 0 → ⊥) → true ≡ anyBelow (k * 64) (λ q. β (inRow a q) (inRow b q))
@@ -188,16 +188,6 @@ wrong-length n g h = sym (ap (λ (b : Bool). b && allBelow n (clearAt n g)) (ne-
 pub right-length : (n : ℕ) (g : List ℕ) → length g ≡ n * rowWords n → allBelow n (clearAt n g) ≡ isMatrix n g
 unfolding isMatrix
 right-length n g h = sym (ap (λ (b : Bool). b && allBelow n (clearAt n g)) (eq-eqb (length g) (n * rowWords n) h))
-
--- ---- transitivity by rows
-
-pub pair-none : (n : ℕ) (R : ℕ → ℕ → Bool) (p q : ℕ) → R p q ≡ false → true ≡ transitivePair n R p q
-unfolding transitivePair
-pair-none n R p q e = all-yes n _ (λ r h. ap (λ (b : Bool). b && R q r ⇒ R p r) e)
-
-pub pair-some : (n : ℕ) (R : ℕ → ℕ → Bool) (p q : ℕ) → R p q ≡ true → includedBelow n (R q) (R p) ≡ transitivePair n R p q
-unfolding transitivePair includedBelow
-pair-some n R p q e = all-cong n _ _ (λ r h. sym (ap (λ (b : Bool). b && R q r ⇒ R p r) e))
 
 -- ---- a matrix as one row
 

@@ -4,5 +4,6 @@ pub mod Rows
 pub mod Matrices
 pub mod Counts
 pub mod Checks
+pub mod Transitivity
 pub mod Termination
 pub mod Computed

@@ -293,6 +293,14 @@ without-row p M R t q = go (eqb t p) refl
     go true e = ap (λ (k : ℕ). R k q && not (M q)) (sym (eqb-true t p e))
     go false e = keep (R t q)
 
+-- row p was lent so, and came back without the set M
+pub row-removed : (n p : ℕ) (g : List ℕ) (M : ℕ → Bool) → Matrix n g → Words g → p < n → (ys : List ℕ)
+    → ys ≡ rowOf (rowWords n) (λ q. inRow (take (length g - p * rowWords n) (drop (p * rowWords n) g)) q && not (M q))
+    ++ drop (rowWords n) (take (length g - p * rowWords n) (drop (p * rowWords n) g))
+    → putMid (p * rowWords n) (length g - p * rowWords n) g ys ≡ matrixOf n (withoutStates p M (relationOf n g))
+row-removed n p g M ok words hp ys last =
+    row-zipped n p g (λ a b. a && not b) M (λ b. refl) ok words hp ys last ∙ matrixOf-cong n _ _ (λ t q ht hq. without-row p M (relationOf n g) t q)
+
 -- the row p that was set, and any other
 pub set-here : (p : ℕ) (S : ℕ → Bool) (R : ℕ → ℕ → Bool) (q : ℕ) → setRow p S R p q ≡ S q
 set-here p S R q = ap (λ (b : Bool). cond b (S q) (R p q)) (eq-eqb p p refl)

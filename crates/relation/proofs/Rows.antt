@@ -8,7 +8,7 @@ use native.Mathlib.Nat.{div-add-mod', mod-lt, eq-or-lt-of-le}
 use native.Mathlib.Omega.{arith}
 use lib.Bits.{bitAnd, bitOr, bitXor, and-lt, or-lt, xor-lt, and-le-l}
 use lib.Arith.{digits-div, digits-mod}
-use lib.ListN.{length, replicate, getD-replicate, List·getD-append, getD, set, drop, length-set}
+use lib.ListN.{length, replicate, getD-replicate, List·getD-append, getD, set, drop, length-set, length-append, length-drop}
 use lib.Seq.{getD-drop, getD-append-add, getD-set-same, getD-set-other}
 use lib.Dec.{eqb}
 use lib.Pow.{pow-pos}
@@ -55,6 +55,10 @@ inRow-rest k S d q h l =
     let back : k + (q / 64 - k) ≡ q / 64 = omega arith in
     ap (λ (x : ℕ). bit x (q % 64))
     (ap (λ (j : ℕ). getD (rowOf k S ++ drop k d) j 0) split ∙ getD-append-add (rowOf k S) (drop k d) (q / 64 - k) 0 ∙ getD-drop k d (q / 64 - k) 0 ∙ ap (λ (j : ℕ). getD d j 0) back)
+
+-- such a row is as long as it was
+pub length-written : (k : ℕ) (S : ℕ → Bool) (d : List ℕ) → k ≤ length d → length (rowOf k S ++ drop k d) ≡ length d
+length-written k S d l = simp (length-append, length-listBelow, length-drop) (omega arith)
 
 -- words of zeros
 pub getD-zeros : (k j : ℕ) → getD (replicate {A = ℕ} k 0) j 0 ≡ 0
@@ -130,13 +134,23 @@ minus-bitwise = record {
   bits = λ x y i hx hy l. bit-and x ((2 ^ 64 - 1) - y) i ∙ ap (λ (b : Bool). bit x i && b) (bit-not 64 y i l hy);
 }
 
+-- a turn whose word y has the bits of the set M
+pub zip-word : (op : ℕ → ℕ → ℕ) (β : Bool → Bool → Bool) → Bitwise op β → (M : ℕ → Bool) (d row : List ℕ) (c : ℕ) {y : ℕ}
+    → row ≡ rowOf c (λ q. β (inRow d q) (M q)) ++ drop c d → c < length d → getD row c 0 < 2 ^ 64 → y < 2 ^ 64 → ((i : ℕ) → i < 64 → bit y i ≡ M (c * 64 + i))
+    → set row c (op (getD row c 0) y) ≡ rowOf (c + 1) (λ q. β (inRow d q) (M q)) ++ drop (c + 1) d
+zip-word op β ok M d row c now l hr hy bits =
+    row-more _ d row c now l (ok .small _ _ hr hy) (λ i h.
+    ok .bits _ _ i hr hy h ∙ ap₂ β (ap (λ (x : ℕ). bit x i) (row-unread _ d row c now) ∙ sym (inRow-at d c i h)) (bits i h))
+
 pub zip-more : (op : ℕ → ℕ → ℕ) (β : Bool → Bool → Bool) → Bitwise op β → (d mask row : List ℕ) (c : ℕ)
     → row ≡ rowOf c (λ q. β (inRow d q) (inRow mask q)) ++ drop c d → c < length d → getD row c 0 < 2 ^ 64 → getD mask c 0 < 2 ^ 64
     → set row c (op (getD row c 0) (getD mask c 0)) ≡ rowOf (c + 1) (λ q. β (inRow d q) (inRow mask q)) ++ drop (c + 1) d
-zip-more op β ok d mask row c now l hr hm =
-    row-more _ d row c now l (ok .small _ _ hr hm) (λ i h.
-    ok .bits _ _ i hr hm h
-    ∙ ap₂ β (ap (λ (x : ℕ). bit x i) (row-unread _ d row c now) ∙ sym (inRow-at d c i h)) (sym (inRow-at mask c i h)))
+zip-more op β ok d mask row c now l hr hm = zip-word op β ok (inRow mask) d row c now l hr hm (λ i h. sym (inRow-at mask c i h))
+
+-- the words of two rows, joined
+pub zip-joined : (op : ℕ → ℕ → ℕ) (β : Bool → Bool → Bool) → Bitwise op β → (a b : List ℕ) (c : ℕ) → getD a c 0 < 2 ^ 64 → getD b c 0 < 2 ^ 64
+    → (i : ℕ) → i < 64 → bit (op (getD a c 0) (getD b c 0)) i ≡ β (inRow a (c * 64 + i)) (inRow b (c * 64 + i))
+zip-joined op β ok a b c ha hb i l = ok .bits _ _ i ha hb l ∙ sym (ap₂ β (inRow-at a c i l) (inRow-at b c i l))
 
 -- ---- a row of which word q / 64 is written anew: S is the row's set but at q
 
@@ -226,3 +240,14 @@ module _ (d : List ℕ) (H : ℕ → ℕ → Bool) where
   gather-out j now this =
       now ∙ rowOf-cong (length d) _ _ (λ q h.
       ap (λ (b : Bool). inRow d q || b) (sym (or-false (anyBelow j (H q))) ∙ ap (λ (b : Bool). anyBelow j (H q) || b) (sym (this q)) ∙ sym (any-more (H q) j)))
+
+-- the words from 4 * a on hold the set of action a
+pub part-in : (sets : List ℕ) (a q : ℕ) → inRow (drop (4 * a) sets) q ≡ inRow sets (256 * a + q)
+unfolding inRow
+part-in sets a q =
+    let word : 4 * a + q / 64 ≡ (256 * a + q) / 64 = omega arith in
+    let place : q % 64 ≡ (256 * a + q) % 64 = omega arith in
+    ap₂ (λ (x i : ℕ). bit x i) (getD-drop (4 * a) sets (q / 64) 0 ∙ ap (λ (j : ℕ). getD sets j 0) word) place
+
+pub part-length : (sets : List ℕ) (a : ℕ) {part : List ℕ} → length sets ≡ 260 → a ≤ 64 → part ≡ drop (4 * a) sets → 4 ≤ length part
+part-length sets a long h e = omega (arith, ap length e, length-drop (4 * a) sets)

@@ -1,14 +1,14 @@
 // Relations on states as bit matrices over 64-bit words (document 01, "Grids"), and sets of states as rows of such words.
 ghost use mathlib.Core.Path.{_≡_};
-ghost use mathlib.Core.Bool.{true, false, not, _&&_, _||_, xor};
+ghost use mathlib.Core.Bool.{true, false, cond, not, _&&_, _||_, xor};
 ghost use mathlib.Core.List.{_++_};
-ghost use Prim.Native.Nat.{_+_, _*_, _/_, _%_, _<_, _≤_};
+ghost use Prim.Native.Nat.{ℕ, _+_, _*_, _/_, _%_, _<_, _≤_};
 ghost use lib.Dec.{eqb};
 ghost use lib.ListN.{length, drop};
 ghost use Rattle.lts.specs.Bounded.{_⇒_, anyBelow, countBelow, lowest};
 ghost use Rattle.lts.specs.Table.{markedSet};
 ghost use Rattle.relation.specs.Matrix.{digit, inRow, inMatrix, wordAt, rowOf, rowWords, statesBelow, matrixOf, relationOf, Matrix, Row, pairCount, setRow, withoutStates, Next};
-ghost use Rattle.relation.specs.Check.{includedBelow, withinBelow, reflexiveBelow, transitivePair, transitiveAt, transitiveBelow, clearAt, isMatrix, checkPreorder, terminationRow};
+ghost use Rattle.relation.specs.Check.{includedBelow, withinBelow, reflexiveBelow, transitivePair, transitiveAt, transitiveBelow, clearAt, isMatrix, checkPreorder, terminationRow, Left};
 
 // Rows: a set of states in the first words of a slice.
 
@@ -61,15 +61,6 @@ pub fn insert(row: &mut [u64], q: usize)
     row[c] = row[c] | (1 << (q % 64));
 }
 
-// Takes state q out of a row.
-pub fn remove(row: &mut [u64], q: usize)
-    requires { ⌜ q / 64 < length (now row) ⌝ }
-    ensures { λ _. ⌜ now (row .exit) ≡ rowOf (length (now (row .entry))) (λ x. not (eqb x q) && inRow (now (row .entry)) x) ⌝ }
-{
-    let c = q / 64;
-    row[c] = row[c] & !(1 << (q % 64));
-}
-
 // How many states the row has in its first k words.
 pub fn row_count(row: &[u64], k: usize) -> usize
     requires { ⌜ (k ≤ length (now row)) × (k ≤ 1024) ⌝ }
@@ -93,6 +84,18 @@ pub fn row_copy(row: &mut [u64], from: &[u64], k: usize)
     while c < k {
         row[c] = from[c];
         c += 1;
+    }
+}
+
+// Writes the states of the first k words of `yes` into the row, or of `no`.
+fn row_select(row: &mut [u64], which: bool, yes: &[u64], no: &[u64], k: usize)
+    requires { ⌜ (k ≤ length (now row)) × (k ≤ length (now yes)) × (k ≤ length (now no)) ⌝ }
+    ensures { λ _. ⌜ now (row .exit) ≡ rowOf k (inRow (cond which (now (yes .entry)) (now (no .entry)))) ++ drop k (now (row .entry)) ⌝ }
+{
+    if which {
+        row_copy(row, yes, k);
+    } else {
+        row_copy(row, no, k);
     }
 }
 
@@ -120,6 +123,18 @@ pub fn row_minus(row: &mut [u64], mask: &[u64], k: usize)
     }
 }
 
+// Takes what a and b have in common out of the row's first k words.
+pub fn row_minus_common(row: &mut [u64], a: &[u64], b: &[u64], k: usize)
+    requires { ⌜ (k ≤ length (now row)) × (k ≤ length (now a)) × (k ≤ length (now b)) ⌝ }
+    ensures { λ _. ⌜ now (row .exit) ≡ rowOf k (λ q. inRow (now (row .entry)) q && not (inRow (now (a .entry)) q && inRow (now (b .entry)) q)) ++ drop k (now (row .entry)) ⌝ }
+{
+    let mut c = 0;
+    while c < k {
+        row[c] = row[c] & !(a[c] & b[c]);
+        c += 1;
+    }
+}
+
 // Adds the states of `mask` to the row's first k words.
 pub fn row_union(row: &mut [u64], mask: &[u64], k: usize)
     requires { ⌜ (k ≤ length (now row)) × (k ≤ length (now mask)) ⌝ }
@@ -140,21 +155,6 @@ pub fn row_any(row: &[u64], k: usize) -> bool
     let mut c = 0;
     while c < k {
         if row[c] != 0 {
-            return true;
-        }
-        c += 1;
-    }
-    false
-}
-
-// Whether a and b have a state in common in their first k words.
-pub fn row_meets(a: &[u64], b: &[u64], k: usize) -> bool
-    requires { ⌜ (k ≤ length (now a)) × (k ≤ length (now b)) ⌝ }
-    ensures { λ r. ⌜ r ≡ anyBelow (k * 64) (λ q. inRow (now (a .entry)) q && inRow (now (b .entry)) q) ⌝ }
-{
-    let mut c = 0;
-    while c < k {
-        if a[c] & b[c] != 0 {
             return true;
         }
         c += 1;
@@ -190,6 +190,15 @@ pub fn row_within(a: &[u64], b: &[u64], k: usize) -> bool
         c += 1;
     }
     true
+}
+
+// The sets from action a's on, in a row that holds a set of 256 states for each action from 0 to 64.
+pub fn action_part(sets: &[u64], a: usize) -> &[u64]
+    requires { ⌜ (length (now sets) ≡ 260) × (a ≤ 64) ⌝ }
+    ensures { λ r. ⌜ now r ≡ drop (4 * a) (now (sets .entry)) ⌝ }
+{
+    let at = 4 * a;
+    &sets[at..]
 }
 
 // Matrices: a relation on the states below n.
@@ -268,6 +277,16 @@ pub fn remove_states(grid: &mut [u64], n: usize, p: usize, mask: &[u64])
     row_minus(&mut grid[at..], mask, w);
 }
 
+// Takes what a and b have in common out of row p.
+pub fn remove_common(grid: &mut [u64], n: usize, p: usize, a: &[u64], b: &[u64])
+    requires { ⌜ Matrix n (now grid) × (n ≤ 256) × (p < n) × (rowWords n ≤ length (now a)) × (rowWords n ≤ length (now b)) ⌝ }
+    ensures { λ _. ⌜ now (grid .exit) ≡ matrixOf n (withoutStates p (λ q. inRow (now (a .entry)) q && inRow (now (b .entry)) q) (relationOf n (now (grid .entry)))) ⌝ }
+{
+    let w = (n + 63) / 64;
+    let at = p * w;
+    row_minus_common(&mut grid[at..], a, b, w);
+}
+
 // Whether each pair of a is in b.
 pub fn matrix_within(a: &[u64], b: &[u64], n: usize) -> bool
     requires { ⌜ Matrix n (now a) × Matrix n (now b) × (n ≤ 256) ⌝ }
@@ -324,44 +343,75 @@ fn is_reflexive(grid: &[u64], n: usize) -> bool
     true
 }
 
-// Whether p is related to each state that q is related to, if p is related to q.
+// Whether p, which is related to q, is related to each state that q is related to.
 fn transitive_pair(grid: &[u64], n: usize, p: usize, q: usize) -> bool
-    requires { ⌜ Matrix n (now grid) × (n ≤ 256) × (p < n) × (q < n) ⌝ }
+    requires { ⌜ Matrix n (now grid) × (n ≤ 256) × (p < n) × (q < n) × (relationOf n (now grid) p q ≡ true) ⌝ }
     ensures { λ r. ⌜ r ≡ transitivePair n (relationOf n (now (grid .entry))) p q ⌝ }
 {
     let w = (n + 63) / 64;
-    if !has(grid, w, p, q) {
-        return true;
-    }
     row_within(row_at(grid, n, q), row_at(grid, n, p), w)
 }
 
-// The same for each q.
-fn transitive_at(grid: &[u64], n: usize, p: usize) -> bool
-    requires { ⌜ Matrix n (now grid) × (n ≤ 256) × (p < n) ⌝ }
-    ensures { λ r. ⌜ r ≡ transitiveAt n (relationOf n (now (grid .entry))) p ⌝ }
+// The same for each q above p in `left`. A state that such a q is related to passes with it, and leaves `left`.
+fn transitive_above(grid: &[u64], n: usize, p: usize, left: &mut [u64]) -> bool
+    requires { ⌜ Matrix n (now grid) × (n ≤ 256) × (p < n) × Left n (relationOf n (now grid)) p (now left) ⌝ }
+    requires { ⌜ ((x : ℕ) → p < x → x < n → transitiveAt n (relationOf n (now grid)) x ≡ true) ⌝ }
+    ensures { λ r. ⌜ (r ≡ false → transitiveAt n (relationOf n (now (grid .entry))) p ≡ false) × (r ≡ true → Left n (relationOf n (now (grid .entry))) p (now (left .exit))) ⌝ }
 {
-    let mut q = 0;
+    let w = (n + 63) / 64;
+    let mut q = next_state(left, w, p + 1);
     while q < n {
         if !transitive_pair(grid, n, p, q) {
             return false;
         }
-        q += 1;
+        row_minus(left, row_at(grid, n, q), w);
+        q = next_state(left, w, q + 1);
     }
     true
 }
 
-// The same for each p and q.
+// The same for each q in `left`. The others have passed.
+fn transitive_rest(grid: &[u64], n: usize, p: usize, left: &[u64]) -> bool
+    requires { ⌜ Matrix n (now grid) × (n ≤ 256) × (p < n) × Left n (relationOf n (now grid)) p (now left) ⌝ }
+    ensures { λ r. ⌜ r ≡ transitiveAt n (relationOf n (now (grid .entry))) p ⌝ }
+{
+    let w = (n + 63) / 64;
+    let mut q = next_state(left, w, 0);
+    while q < n {
+        if !transitive_pair(grid, n, p, q) {
+            return false;
+        }
+        q = next_state(left, w, q + 1);
+    }
+    true
+}
+
+// The same for each q. Every state above p has passed.
+fn transitive_at(grid: &[u64], n: usize, p: usize) -> bool
+    requires { ⌜ Matrix n (now grid) × (n ≤ 256) × (p < n) ⌝ }
+    requires { ⌜ ((x : ℕ) → p < x → x < n → transitiveAt n (relationOf n (now grid)) x ≡ true) ⌝ }
+    ensures { λ r. ⌜ r ≡ transitiveAt n (relationOf n (now (grid .entry))) p ⌝ }
+{
+    let w = (n + 63) / 64;
+    let mut left = [0u64; 4];
+    row_copy(&mut left, row_at(grid, n, p), w);
+    if !transitive_above(grid, n, p, &mut left) {
+        return false;
+    }
+    transitive_rest(grid, n, p, &left)
+}
+
+// The same for each p and q, from the last state down.
 fn is_transitive(grid: &[u64], n: usize) -> bool
     requires { ⌜ Matrix n (now grid) × (n ≤ 256) ⌝ }
     ensures { λ r. ⌜ r ≡ transitiveBelow n (relationOf n (now (grid .entry))) ⌝ }
 {
-    let mut p = 0;
-    while p < n {
+    let mut p = n;
+    while 0 < p {
+        p -= 1;
         if !transitive_at(grid, n, p) {
             return false;
         }
-        p += 1;
     }
     true
 }
@@ -439,10 +489,14 @@ pub fn write_termination(marks: &[u8; 256], n: usize, grid: &mut [u64])
     ensures { λ _. ⌜ now (grid .exit) ≡ matrixOf n (λ p q. markedSet n (now (marks .entry)) p ⇒ markedSet n (now (marks .entry)) q) ⌝ }
 {
     let w = (n + 63) / 64;
+    let mut ended = [0u64; 4];
+    let mut other = [0u64; 4];
+    termination_row(&mut ended, marks, n, true);
+    termination_row(&mut other, marks, n, false);
     let mut p = 0;
     while p < n {
         let at = p * w;
-        termination_row(&mut grid[at..], marks, n, marks[p] == 1);
+        row_select(&mut grid[at..], marks[p] == 1, &ended, &other, w);
         p += 1;
     }
 }

@@ -14,6 +14,11 @@ use Rattle.carry.specs.Carried.{numbersOf, loaded}
 use Rattle.carry.proofs.Laws.{numbers-length}
 use Rattle.release.specs.Bytes.{countOf, carriedBy, LoadedFrom}
 
+-- what was read into the front of a buffer
+pub loaded-front : (k : ℕ) (bytes old numbers : List ℕ) → numbers ≡ loaded k bytes old → take (length bytes / k) numbers ≡ numbersOf k (length bytes / k) bytes
+unfolding loaded
+loaded-front k bytes old numbers e = rw e (take-at (numbersOf k (length bytes / k) bytes) (drop (length bytes / k) old) (length bytes / k) (numbers-length k (length bytes / k) bytes))
+
 module _ (k most : ℕ) (g : List ℕ) where
   -- what is carried fits the bytes
   pub carried-fits : k * length (carriedBy k most g) ≤ length g
@@ -54,11 +59,11 @@ module _ (k most : ℕ) (g : List ℕ) where
   loaded-none t numbers l = record { few = omega arith; long = l; loaded = rw (none t) }
 
   pub loaded-whole : misfit ≡ false → (old numbers : List ℕ) → length numbers ≡ most → numbers ≡ loaded k g old → LoadedFrom k most g (length g / k) numbers
-  unfolding carriedBy loaded
+  unfolding carriedBy
   loaded-whole t old numbers l e = record {
     few = whole-few t;
     long = l;
-    loaded = rw (whole t .0, e) (take-at (numbersOf k (length g / k) g) (drop (length g / k) old) (length g / k) (numbers-length k (length g / k) g));
+    loaded = rw (whole t .0) (loaded-front k g old numbers e);
   }
 
   -- A buffer of m numbers: its length is right in numbers exactly where it is in bytes.

@@ -24,14 +24,14 @@ use Rattle.relation.specs.declared.Checked.{Checked}
 use Rattle.relation.specs.declared.Checked.the-variants.{Preorder, Refused as Unchecked}
 use Rattle.relation.specs.Matrix.{rowWords, relationOf}
 use Rattle.relation.specs.Check.{checkPreorder}
-use Rattle.carry.specs.Carried.{stored}
+use Rattle.carry.specs.Carried.{listOf, stored}
 use Rattle.coarsest.specs.declared.Counts.{Counts}
 use Rattle.coarsest.specs.declared.Answer.{Answer}
 use Rattle.coarsest.specs.declared.Answer.the-variants.{Done, Refused}
 use Rattle.coarsest.specs.Call.{Outcome, countsOf, refined, refusal, checkedOutcome, readOutcome, coarsestCall}
 use Rattle.coarsest.proofs.Laws.{promised}
 use Rattle.release.specs.Bytes.{wordsOf, namesOf}
-use Rattle.release.specs.Calls.{scheduleOf, Left, Small, countsNumber, carriedBack, coarsestOnBytes, flowCoarsest}
+use Rattle.release.specs.Calls.{Left, Small, countsNumber, carriedBack, coarsestOnBytes, flowCoarsest}
 use Rattle.release.proofs.Runs.{coarsest-same}
 
 -- of at most 256 states
@@ -112,7 +112,18 @@ module _ (s start es grid names words numbers : List ℕ) (w : words ≡ wordsOf
   unfolding carriedBack
   back-done c g m gw mw e = (rw (← w, ← n, ← is, e), rw (← w, ← n, ← is, e, gw), rw (← w, ← n, ← is, e, mw))
 
-pub flow-is : (s preorder schedule grid names words numbers : List ℕ) → words ≡ wordsOf preorder → numbers ≡ take 65280 (scheduleOf schedule)
-    → coarsestOnBytes s words numbers grid names ≡ flowCoarsest s preorder schedule grid names
+-- equal outcomes, part by part
+pub left-same : (a b : Left) → a ≡ b → (a .result ≡ b .result) × (a .grid ≡ b .grid) × (a .names ≡ b .names)
+left-same a b e = (ap (λ (l : Left). l .result) e, ap (λ (l : Left). l .grid) e, ap (λ (l : Left). l .names) e)
+
+-- the numbers of the schedule that are read are enough
+pub front-is : (s start schedule grid names numbers : List ℕ) → numbers ≡ take 65280 (listOf schedule) → coarsestOnBytes s start numbers grid names ≡ coarsestOnBytes s start (listOf schedule) grid names
+front-is s start schedule grid names numbers n = rw (n, call-cut s start (listOf schedule) (wordsOf grid) (namesOf names) 65280 (le-refl 65280))
+
+-- all of the schedule
+pub whole-is : (s start schedule grid names numbers : List ℕ) → numbers ≡ listOf schedule → coarsestOnBytes s start numbers grid names ≡ coarsestOnBytes s start (listOf schedule) grid names
+whole-is s start schedule grid names numbers n = rw n
+
+pub flow-is : (s preorder schedule grid names words : List ℕ) → words ≡ wordsOf preorder → coarsestOnBytes s words (listOf schedule) grid names ≡ flowCoarsest s preorder schedule grid names
 unfolding flowCoarsest
-flow-is s preorder schedule grid names words numbers w n = rw (w, n, call-cut s (wordsOf preorder) (scheduleOf schedule) (wordsOf grid) (namesOf names) 65280 (le-refl 65280))
+flow-is s preorder schedule grid names words w = rw w

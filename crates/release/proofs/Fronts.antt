@@ -9,9 +9,10 @@ use borrow.Author.Tests.{ltb-true, ltb-false}
 use lib.Dec.{ltb}
 use lib.ListN.{length, take, drop, length-drop}
 use lib.Seq.{take-at, take-all, take-add, drop-at, length-take-le, take-length}
-use Rattle.carry.specs.Carried.{numberOf, numbersOf, loaded}
+use Rattle.carry.specs.Carried.{numberOf, numbersOf, listOf, loaded}
 use Rattle.carry.proofs.Laws.{numbers-length}
-use Rattle.release.specs.Calls.{scheduleOf, LoadedSchedule}
+use Rattle.release.specs.Calls.{LoadedSchedule}
+use Rattle.release.proofs.Bytes.{loaded-front}
 
 -- n numbers are in the first k * n bytes
 numbers-front : (k n : ℕ) (bs : List ℕ) → k * n ≤ length bs → numbersOf k n (take (k * n) bs) ≡ numbersOf k n bs
@@ -30,25 +31,29 @@ numbers-take k zero n bs h = refl
 numbers-take k (suc m) zero bs h = absurd (not-suc-le-zero h)
 numbers-take k (suc m) (suc n) bs h = ap (λ (l : List ℕ). numberOf (take k bs) ∷ l) (numbers-take k m n (drop k bs) (le-of-suc-le-suc h))
 
+-- all of a schedule
+pub schedule-all : (bytes old numbers : List ℕ) → numbers ≡ loaded 2 bytes old → take (length bytes / 2) numbers ≡ listOf bytes
+unfolding listOf
+schedule-all bytes old numbers e = loaded-front 2 bytes old numbers e
+
 -- what is read of a schedule: all of it, or the first `most` numbers
 module _ (most : ℕ) (bytes old numbers : List ℕ) (long : length numbers ≡ most) where
   abbrev cut : ℕ → Type 0
   cut c = numbers ≡ loaded 2 (take c bytes) old → LoadedSchedule most bytes (c / 2) numbers
 
   cut-all : length bytes ≤ 2 * most → cut (length bytes)
-  unfolding loaded scheduleOf
+  unfolding listOf
   cut-all h e =
-      let few : length bytes / 2 ≤ most = omega arith in
-      let all : numbers ≡ numbersOf 2 (length bytes / 2) bytes ++ drop (length bytes / 2) old = rw (take-length bytes) at e in
+      let all : numbers ≡ loaded 2 bytes old = rw (take-length bytes) at e in
       let n = numbers-length 2 (length bytes / 2) bytes in
       record {
-        few = few;
+        few = omega arith;
         long = long;
-        loaded = rw (all, take-at (numbersOf 2 (length bytes / 2) bytes) (drop (length bytes / 2) old) (length bytes / 2) n) (sym (take-all most (numbersOf 2 (length bytes / 2) bytes) (omega arith)));
+        loaded = schedule-all bytes old numbers all ∙ sym (take-all most (numbersOf 2 (length bytes / 2) bytes) (omega arith));
       }
 
   cut-front : 2 * most < length bytes → cut (2 * most)
-  unfolding loaded scheduleOf
+  unfolding loaded listOf
   cut-front h e =
       let half : 2 * most / 2 ≡ most = omega arith in
       let l : length (take (2 * most) bytes) ≡ 2 * most = length-take-le (2 * most) bytes (omega arith) in

@@ -1,11 +1,11 @@
 -- The calls of the release tool, on bytes: what each returns and leaves in its buffers. A result has in its low 8 bits the number of a
 -- refusal, or 0; above them the value.
-use Prim.Native.Nat.{ℕ, _+_, _*_, _/_, _^_, _≤_}
+use Prim.Native.Nat.{ℕ, _+_, _*_, _^_, _≤_}
 use mathlib.Core.Path.{_≡_}
 use mathlib.Core.List.{List}
 use lib.ListN.{length, take}
 use Rattle.lts.specs.Refusal.{refusalNumber}
-use Rattle.carry.specs.Carried.{numbersOf, stored}
+use Rattle.carry.specs.Carried.{listOf, stored}
 use Rattle.coarsest.specs.declared.Counts.{Counts}
 use Rattle.coarsest.specs.declared.Answer.{Answer}
 use Rattle.coarsest.specs.declared.Answer.the-variants.{Done, Refused}
@@ -13,10 +13,6 @@ use Rattle.coarsest.specs.Call.{Outcome, coarsestCall}
 use Rattle.comparison.specs.declared.Compared.{Compared}
 use Rattle.comparison.specs.declared.Compared.the-variants.{Yes, No, Refused as Uncompared}
 use Rattle.release.specs.Bytes.{wordsOf, namesOf}
-
--- the numbers of a schedule (a turn list), of any length; an odd last byte is ignored
-unfoldable pub scheduleOf : List ℕ → List ℕ
-scheduleOf bytes = numbersOf 2 (length bytes / 2) bytes
 
 -- coarsest: the steps (turns) from bit 8 on, the pairs from bit 24 and the blocks from bit 48
 abbrev pub countsNumber : Counts → ℕ
@@ -40,7 +36,7 @@ abbrev pub coarsestOnBytes : List ℕ → List ℕ → List ℕ → List ℕ →
 coarsestOnBytes s preorder schedule grid names = carriedBack (coarsestCall s preorder schedule (wordsOf grid) (namesOf names)) grid names
 
 unfoldable pub flowCoarsest : List ℕ → List ℕ → List ℕ → List ℕ → List ℕ → Left
-flowCoarsest s preorder schedule grid names = coarsestOnBytes s (wordsOf preorder) (scheduleOf schedule) grid names
+flowCoarsest s preorder schedule grid names = coarsestOnBytes s (wordsOf preorder) (listOf schedule) grid names
 
 -- compare: yes from bit 8 on, and the steps (turns) from bit 16
 abbrev pub comparedNumber : Compared → ℕ
@@ -58,4 +54,4 @@ pub record Small (c : Counts) : Type 0 where
 pub record LoadedSchedule (most : ℕ) (bytes : List ℕ) (r : ℕ) (numbers : List ℕ) : Type 0 where
   pub few : r ≤ most
   pub long : length numbers ≡ most
-  pub loaded : take r numbers ≡ take most (scheduleOf bytes)
+  pub loaded : take r numbers ≡ take most (listOf bytes)

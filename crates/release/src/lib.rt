@@ -1,9 +1,11 @@
 // The exported calls (document 01, "Compare"): the release tool calls coarsest and compare, tests and bindings the others. Grids and 16-bit
 // lists are carried as bytes, low byte first, and the result is one number, packed as specs/ says.
 ghost use mathlib.Core.Path.{_≡_};
+ghost use Prim.Native.Nat.{_≤_};
 ghost use mathlib.Core.Bool.{cond};
 ghost use lib.Dec.{ltb};
 ghost use lib.ListN.{length};
+ghost use Rattle.carry.specs.Carried.{listOf, stored};
 ghost use Rattle.encoding.specs.Normalise.{normalised};
 ghost use Rattle.simulation.specs.Calls.{simulationCall};
 ghost use Rattle.game.specs.Play.{handPlay};
@@ -13,7 +15,7 @@ ghost use Rattle.strategy.specs.Check.{checkStrategy};
 ghost use Rattle.strategy.specs.Write.{writeStrategy};
 ghost use Rattle.release.specs.Bytes.{wordsOf, namesOf, LoadedFrom};
 ghost use Rattle.release.specs.Answers.{normalisedNumber, testedNumber, playedNumber, verdictNumber, writtenNumber, endStart};
-ghost use Rattle.release.specs.Calls.{scheduleOf, LoadedSchedule, Small, countsNumber, coarsestOnBytes, flowCoarsest, comparedNumber};
+ghost use Rattle.release.specs.Calls.{LoadedSchedule, Small, countsNumber, coarsestOnBytes, flowCoarsest, comparedNumber};
 
 // Reads the words of a grid from its bytes, into the front of words. Their number is 0 where the bytes are no grid's.
 fn load_grid(bytes: &[u8], words: &mut [u64; 1024]) -> usize
@@ -124,6 +126,42 @@ fn coarsest_carried(
     )
 }
 
+// Coarsest, with a schedule of at most 256 numbers: a small buffer is cleared sooner.
+fn coarsest_short(
+    s: &[u8],
+    preorder: &[u64],
+    schedule: &[u8],
+    grid: &mut [u8],
+    names: &mut [u8],
+) -> u64
+    requires { ⌜ length (now schedule) ≤ 513 ⌝ }
+    ensures { λ r. ⌜ r ≡ coarsestOnBytes (now (s .entry)) (now (preorder .entry)) (listOf (now (schedule .entry))) (now (grid .entry)) (now (names .entry)) .result ⌝ }
+    ensures { λ _. ⌜ now (grid .exit) ≡ coarsestOnBytes (now (s .entry)) (now (preorder .entry)) (listOf (now (schedule .entry))) (now (grid .entry)) (now (names .entry)) .grid ⌝ }
+    ensures { λ _. ⌜ now (names .exit) ≡ coarsestOnBytes (now (s .entry)) (now (preorder .entry)) (listOf (now (schedule .entry))) (now (grid .entry)) (now (names .entry)) .names ⌝ }
+{
+    let mut numbers = [0u16; 256];
+    carry::load_numbers(schedule, &mut numbers);
+    let k = schedule.len() / 2;
+    coarsest_carried(s, preorder, &numbers[..k], grid, names)
+}
+
+// Coarsest, with a schedule of any length.
+fn coarsest_long(
+    s: &[u8],
+    preorder: &[u64],
+    schedule: &[u8],
+    grid: &mut [u8],
+    names: &mut [u8],
+) -> u64
+    ensures { λ r. ⌜ r ≡ coarsestOnBytes (now (s .entry)) (now (preorder .entry)) (listOf (now (schedule .entry))) (now (grid .entry)) (now (names .entry)) .result ⌝ }
+    ensures { λ _. ⌜ now (grid .exit) ≡ coarsestOnBytes (now (s .entry)) (now (preorder .entry)) (listOf (now (schedule .entry))) (now (grid .entry)) (now (names .entry)) .grid ⌝ }
+    ensures { λ _. ⌜ now (names .exit) ≡ coarsestOnBytes (now (s .entry)) (now (preorder .entry)) (listOf (now (schedule .entry))) (now (grid .entry)) (now (names .entry)) .names ⌝ }
+{
+    let mut numbers = [0u16; 65280];
+    let k = load_schedule(schedule, &mut numbers);
+    coarsest_carried(s, preorder, &numbers[..k], grid, names)
+}
+
 // Coarsest.
 #[no_mangle]
 pub extern "C" fn flow_coarsest(
@@ -136,13 +174,15 @@ pub extern "C" fn flow_coarsest(
     ensures { λ r. ⌜ r ≡ flowCoarsest (now (s .entry)) (now (preorder .entry)) (now (schedule .entry)) (now (grid .entry)) (now (names .entry)) .result ⌝ }
     ensures { λ _. ⌜ now (grid .exit) ≡ flowCoarsest (now (s .entry)) (now (preorder .entry)) (now (schedule .entry)) (now (grid .entry)) (now (names .entry)) .grid ⌝ }
     ensures { λ _. ⌜ now (names .exit) ≡ flowCoarsest (now (s .entry)) (now (preorder .entry)) (now (schedule .entry)) (now (grid .entry)) (now (names .entry)) .names ⌝ }
-    ensures { λ _. ⌜ Promised (now (s .entry)) (wordsOf (now (preorder .entry))) (scheduleOf (now (schedule .entry))) ⌝ }
+    ensures { λ _. ⌜ Promised (now (s .entry)) (wordsOf (now (preorder .entry))) (listOf (now (schedule .entry))) ⌝ }
 {
     let mut words = [0u64; 1024];
-    let mut numbers = [0u16; 65280];
     let w = load_grid(preorder, &mut words);
-    let k = load_schedule(schedule, &mut numbers);
-    coarsest_carried(s, &words[..w], &numbers[..k], grid, names)
+    let start = &words[..w];
+    if schedule.len() <= 513 {
+        return coarsest_short(s, start, schedule, grid, names);
+    }
+    coarsest_long(s, start, schedule, grid, names)
 }
 
 // Compare.
@@ -231,35 +271,29 @@ pub extern "C" fn flow_end_start(s: &[u8], grid: &mut [u8]) -> u64
     termination_in(s, grid, &mut words[..n])
 }
 
-// Check plan. The strategy is a slice of 16-bit numbers, of any length, and so is not carried as bytes.
+// Check plan. Bytes past the last whole entry of eight are ignored.
 #[no_mangle]
-pub extern "C" fn flow_check_plan(s: &[u8], preorder: &[u8], numbers: &[u16]) -> u64
-    ensures { λ r. ⌜ r ≡ verdictNumber (checkStrategy (now (s .entry)) (wordsOf (now (preorder .entry))) (now (numbers .entry))) ⌝ }
+pub extern "C" fn flow_check_plan(s: &[u8], preorder: &[u8], plan: &[u8]) -> u64
+    ensures { λ r. ⌜ r ≡ verdictNumber (checkStrategy (now (s .entry)) (wordsOf (now (preorder .entry))) (listOf (now (plan .entry)))) ⌝ }
 {
     let mut words = [0u64; 1024];
     let n = load_grid(preorder, &mut words);
-    let answer = strategy::check_strategy(s, &words[..n], numbers);
+    let answer = strategy_bytes::check_bytes(s, &words[..n], plan);
     match answer {
         strategy::Verdict::Refused(r) => lts::refusal_number(r),
         strategy::Verdict::Last(p, q) => 256 * (p as u64) + 16777216 * (q as u64),
     }
 }
 
-// Write plan, into a slice of 16-bit numbers.
+// Write plan. Bytes past the strategy stay as they are.
 #[no_mangle]
-pub extern "C" fn flow_write_plan(
-    s: &[u8],
-    preorder: &[u8],
-    p: u64,
-    q: u64,
-    numbers: &mut [u16],
-) -> u64
-    ensures { λ r. ⌜ r ≡ writtenNumber (writeStrategy (now (s .entry)) (wordsOf (now (preorder .entry))) p q (now (numbers .entry)) .answer) ⌝ }
-    ensures { λ _. ⌜ now (numbers .exit) ≡ writeStrategy (now (s .entry)) (wordsOf (now (preorder .entry))) p q (now (numbers .entry)) .numbers ⌝ }
+pub extern "C" fn flow_write_plan(s: &[u8], preorder: &[u8], p: u64, q: u64, plan: &mut [u8]) -> u64
+    ensures { λ r. ⌜ r ≡ writtenNumber (writeStrategy (now (s .entry)) (wordsOf (now (preorder .entry))) p q (listOf (now (plan .entry))) .answer) ⌝ }
+    ensures { λ _. ⌜ now (plan .exit) ≡ stored 2 (writeStrategy (now (s .entry)) (wordsOf (now (preorder .entry))) p q (listOf (now (plan .entry))) .numbers) (now (plan .entry)) ⌝ }
 {
     let mut words = [0u64; 1024];
     let n = load_grid(preorder, &mut words);
-    let answer = strategy::write_strategy(s, &words[..n], p as usize, q as usize, numbers);
+    let answer = strategy_bytes::write_bytes(s, &words[..n], p as usize, q as usize, plan);
     match answer {
         strategy::Written::Refused(r) => lts::refusal_number(r),
         strategy::Written::Entries(count) => 256 * (count as u64),

@@ -1,5 +1,5 @@
 -- Laws of rows: a row of a matrix that is copied into a set, and a matrix whose rows are changed one after the other. Assumes nothing.
-use mathlib.Core.Path.{_≡_, refl, sym, ap, _∙_}
+use mathlib.Core.Path.{_≡_, refl, sym, ap, _∙_, subst⁻¹}
 use mathlib.Core.Bool.{Bool, false, not, _&&_, cond}
 use mathlib.Core.List.{List, _++_}
 use mathlib.Core.Logic.{⊎-elim}
@@ -13,8 +13,8 @@ use Rattle.lts.specs.System.{Set, Rel}
 use Rattle.relation.specs.Matrix.{inRow, wordAt, rowOf, rowWords, statesBelow, relationOf, matrixOf, Matrix, setRow, withoutStates, rowsOf, Next}
 use Rattle.relation.proofs.Bits.{bit-of-zero}
 use Rattle.relation.proofs.Bounded.{lt-or-ge, length-listBelow, getD-listBelow, list-ext}
-use Rattle.relation.proofs.Rows.{word-at, wordAt-lt, bit-wordAt}
-use Rattle.relation.proofs.Matrices.{inRow-drop, states-in, states-out, matrixOf-cong, relation-of, set-here, set-other, without-row, done-more, done-none}
+use Rattle.relation.proofs.Rows.{word-at, wordAt-lt, bit-wordAt, inRow-written}
+use Rattle.relation.proofs.Matrices.{inRow-drop, row-long, states-in, states-out, matrixOf-cong, relation-of, set-here, set-other, without-row, done-more, done-none}
 
 -- the words of A, written into words that are 0, are the words of S: A is S in its w words, and S has no state above them
 pub set-words : (k w : ℕ) (A S : Set) (d : List ℕ) → w ≤ k → length d ≡ k → ((j : ℕ) → getD d j 0 ≡ 0) → ((q : ℕ) → q < w * 64 → A q ≡ S q)
@@ -40,6 +40,19 @@ copied-row n p g row d small ok hp long zero at =
     ∙ ⊎-elim (λ (l : q < n). sym (states-in n (relationOf n g p) q l))
     (λ (l : n ≤ q). ok .clear p q hp l h ∙ sym (states-out n (relationOf n g p) q l)) (lt-or-ge q n))
     (λ q h. states-out n (relationOf n g p) q (omega arith))
+
+-- ---- a row of a matrix, as a part that starts at its first word, and a set that it is put together with
+
+pub row-words : (n : ℕ) {p : ℕ} (g : List ℕ) {row : List ℕ} → row ≡ drop (p * rowWords n) g → p < n → Matrix n g → rowWords n ≤ length row
+row-words n g e hp ok = subst⁻¹ (λ (l : List ℕ). rowWords n ≤ length l) e (row-long n g hp (ok .long))
+
+pub zipped-row : (n p : ℕ) (g : List ℕ) (β : Bool → Bool → Bool) (d : List ℕ) {row d′ : List ℕ} → row ≡ drop (p * rowWords n) g
+    → d′ ≡ rowOf (rowWords n) (λ q. β (inRow d q) (inRow row q)) ++ drop (rowWords n) d → (q : ℕ) → q < n → inRow d′ q ≡ β (inRow d q) (relationOf n g p q)
+zipped-row n p g β d {row} at e q h =
+    ap (λ (l : List ℕ). inRow l q) e ∙ inRow-written (rowWords n) (λ q. β (inRow d q) (inRow row q)) (drop (rowWords n) d) q (omega arith)
+    ∙ ap (β (inRow d q)) (ap (λ (l : List ℕ). inRow l q) at ∙ inRow-drop (rowWords n) g p q)
+
+-- ---- a matrix whose rows are changed one after the other
 
 -- rows that N leaves as R has them may be passed over
 module _ (n : ℕ) (N R : Rel) (g g′ : ℕ) where

@@ -69,8 +69,6 @@ pub struct Case {
     pub bytes: Vec<Vec<u8>>,
     /// p, q and rounds, as far as the call takes them.
     pub numbers: Vec<u64>,
-    /// The plan's numbers, where the call takes a plan.
-    pub plan: Vec<u16>,
 }
 
 /// What a call comes to: the answer's values in order, or the refusal's
@@ -79,13 +77,12 @@ pub struct Case {
 pub struct Outcome {
     pub answer: Result<Vec<u64>, u8>,
     pub bytes: Vec<Vec<u8>>,
-    pub plan: Vec<u16>,
 }
 
 impl fmt::Debug for Case {
     fn fmt(&self, f: &mut fmt::Formatter<'_>) -> fmt::Result {
         writeln!(f, "call {} numbers {:?}", self.call.name(), self.numbers)?;
-        write_buffers(f, &self.bytes, &self.plan)
+        write_buffers(f, &self.bytes)
     }
 }
 
@@ -95,12 +92,12 @@ impl fmt::Debug for Outcome {
             Ok(values) => writeln!(f, "answer {values:?}")?,
             Err(number) => writeln!(f, "refused {number}")?,
         }
-        write_buffers(f, &self.bytes, &self.plan)
+        write_buffers(f, &self.bytes)
     }
 }
 
-/// The buffers, the bytes in hexadecimal.
-fn write_buffers(f: &mut fmt::Formatter<'_>, bytes: &[Vec<u8>], plan: &[u16]) -> fmt::Result {
+/// The buffers, in hexadecimal.
+fn write_buffers(f: &mut fmt::Formatter<'_>, bytes: &[Vec<u8>]) -> fmt::Result {
     for (at, buffer) in bytes.iter().enumerate() {
         write!(f, "buffer {at}, {} bytes:", buffer.len())?;
         for byte in buffer {
@@ -108,5 +105,5 @@ fn write_buffers(f: &mut fmt::Formatter<'_>, bytes: &[Vec<u8>], plan: &[u16]) ->
         }
         writeln!(f)?;
     }
-    writeln!(f, "plan, {} numbers: {plan:?}", plan.len())
+    Ok(())
 }

@@ -4,7 +4,7 @@ use crate::case::{Call, Case};
 use crate::damage::{sheet, wrong_length};
 use crate::flows::{self, Sizes};
 use crate::grids;
-use crate::sides::carried;
+use crate::sides::{carried, carried16};
 use reference::lts::Lts;
 use reference::plans::{Rounds, ENTRY_NUMBERS};
 use reference::prng::Prng;
@@ -34,7 +34,6 @@ pub fn case(call: Call, seed: u64) -> Case {
         call,
         bytes: Vec::new(),
         numbers: Vec::new(),
-        plan: Vec::new(),
     };
     match call {
         Call::Coarsest => coarsest(rng, &mut case),
@@ -56,12 +55,16 @@ pub fn case(call: Call, seed: u64) -> Case {
         }
         Call::CheckPlan => {
             let (lts, start) = flow_and_start(rng, FEW, &mut case);
-            case.plan = plan_to_check(rng, &lts, &start);
+            let plan = plan_to_check(rng, &lts, &start);
+            case.bytes.push(carried16(&plan));
+            odd_byte(rng, &mut case);
         }
         Call::WritePlan => {
             let (lts, start) = flow_and_start(rng, FEW, &mut case);
             let (p, q) = pair(rng, &lts, &start);
-            case.plan = plan_buffer(rng, &lts, &start, p, q);
+            let plan = plan_buffer(rng, &lts, &start, p, q);
+            case.bytes.push(carried16(&plan));
+            odd_byte(rng, &mut case);
             case.numbers = vec![
                 argument(rng, p, lts.states()),
                 argument(rng, q, lts.states()),
@@ -122,7 +125,7 @@ fn coarsest(rng: &mut Prng, case: &mut Case) {
     } else {
         let most = [0, 3, 4 * n][rng.below(3)];
         let list = random::schedule(rng, most);
-        list.iter().flat_map(|e| e.to_le_bytes()).collect()
+        carried16(&list)
     };
     if rng.chance(20) {
         turns.push(rng.bits() as u8);
@@ -236,6 +239,14 @@ fn any_numbers(rng: &mut Prng, count: usize, most: usize) -> Vec<u16> {
     (0..count).map(|_| rng.below(most + 1) as u16).collect()
 }
 
+/// Now and then one byte more at the end of the last buffer.
+fn odd_byte(rng: &mut Prng, case: &mut Case) {
+    if rng.chance(30) {
+        let byte = rng.bits() as u8;
+        case.bytes.last_mut().expect("a buffer").push(byte);
+    }
+}
+
 /// A plan to be checked: a written one, one that was changed, or anything.
 fn plan_to_check(rng: &mut Prng, lts: &Lts, start: &Preorder) -> Vec<u16> {
     let n = lts.states();
@@ -274,6 +285,10 @@ fn plan_to_check(rng: &mut Prng, lts: &Lts, start: &Preorder) -> Vec<u16> {
             let numbers = [t.source, rng.below(n), t.action, t.target];
             plan.extend(numbers.map(|x| x as u16));
         }
+        7 if (1..64).contains(&entries) && rng.below(50) == 0 => {
+            // More entries than there are pairs.
+            plan = plan.repeat(65_537usize.div_ceil(entries));
+        }
         _ => {}
     }
     let rest = rng.below(ENTRY_NUMBERS);
@@ -289,6 +304,9 @@ fn plan_buffer(rng: &mut Prng, lts: &Lts, start: &Preorder, p: usize, q: usize) 
     };
     let count = if rng.chance(MISSIZED) {
         wrong_length(rng, right, ENTRY_NUMBERS)
+    } else if rng.below(2_000) == 0 {
+        // More room than any plan needs.
+        ENTRY_NUMBERS * 65_536 + rng.below(3 * ENTRY_NUMBERS)
     } else {
         right + rng.below(3 * ENTRY_NUMBERS)
     };

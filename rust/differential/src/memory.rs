@@ -1,14 +1,12 @@
 //! Where lent buffers lie, so that a step outside them shows.
 
-/// How many slots a case needs: five byte buffers, and the last for a plan.
-pub const SLOTS: usize = 6;
+/// How many slots a case needs.
+pub const SLOTS: usize = 5;
 
 /// A place for one lent buffer.
 pub trait Slot {
     /// Lends bytes with this content.
     fn bytes(&mut self, content: &[u8]) -> &mut [u8];
-    /// Lends numbers with this content.
-    fn numbers(&mut self, content: &[u16]) -> &mut [u16];
 }
 
 /// Heap blocks of exactly the buffer's length, made anew for each buffer, as
@@ -16,7 +14,6 @@ pub trait Slot {
 #[derive(Default)]
 pub struct Heap {
     bytes: Box<[u8]>,
-    numbers: Box<[u16]>,
 }
 
 impl Heap {
@@ -30,11 +27,6 @@ impl Slot for Heap {
     fn bytes(&mut self, content: &[u8]) -> &mut [u8] {
         self.bytes = content.into();
         &mut self.bytes
-    }
-
-    fn numbers(&mut self, content: &[u16]) -> &mut [u16] {
-        self.numbers = content.into();
-        &mut self.numbers
     }
 }
 
@@ -102,25 +94,6 @@ mod guarded {
             assert_eq!(status, 0, "the room cannot be opened");
             Guarded { whole, side }
         }
-
-        /// Lends items with this content. Any bits are a value of `T`, which
-        /// is one of the two types of [`Slot`].
-        fn lend<T: Copy>(&mut self, content: &[T]) -> &mut [T] {
-            let length = size_of_val(content);
-            assert!(length <= ROOM, "a buffer above the room");
-            let before = match self.side {
-                Side::Begin => 0,
-                Side::End => ROOM - length,
-            };
-            // Inside the room; aligned, since ROOM and PAGE are multiples of
-            // both sizes; borrowed as long as the slot is.
-            unsafe {
-                let first: *mut T = self.whole.byte_add(PAGE + before).cast();
-                let lent = std::slice::from_raw_parts_mut(first, content.len());
-                lent.copy_from_slice(content);
-                lent
-            }
-        }
     }
 
     impl Drop for Guarded {
@@ -131,11 +104,19 @@ mod guarded {
 
     impl Slot for Guarded {
         fn bytes(&mut self, content: &[u8]) -> &mut [u8] {
-            self.lend(content)
-        }
-
-        fn numbers(&mut self, content: &[u16]) -> &mut [u16] {
-            self.lend(content)
+            let length = content.len();
+            assert!(length <= ROOM, "a buffer above the room");
+            let before = match self.side {
+                Side::Begin => 0,
+                Side::End => ROOM - length,
+            };
+            // Inside the room, and borrowed as long as the slot is.
+            unsafe {
+                let first: *mut u8 = self.whole.byte_add(PAGE + before).cast();
+                let lent = std::slice::from_raw_parts_mut(first, length);
+                lent.copy_from_slice(content);
+                lent
+            }
         }
     }
 }

@@ -7,19 +7,16 @@ use reference::{compare, game, grid, plans, sheet, turns};
 
 /// The archive's outcome, with the lent buffers lying in the given slots.
 pub fn archive<S: Slot>(case: &Case, slots: &mut [S; SLOTS]) -> Outcome {
-    let (plan_slot, byte_slots) = slots.split_last_mut().expect("there are slots");
-    let plan = plan_slot.numbers(&case.plan);
     let mut bytes: Vec<&mut [u8]> = case
         .bytes
         .iter()
-        .zip(byte_slots)
+        .zip(slots)
         .map(|(content, slot)| slot.bytes(content))
         .collect();
-    let answer = archive_answer(case.call, &mut bytes, &case.numbers, plan);
+    let answer = archive_answer(case.call, &mut bytes, &case.numbers);
     Outcome {
         answer: answer.map_err(Refusal::number),
         bytes: bytes.iter().map(|buffer| buffer.to_vec()).collect(),
-        plan: plan.to_vec(),
     }
 }
 
@@ -28,7 +25,6 @@ fn archive_answer(
     call: Call,
     bytes: &mut [&mut [u8]],
     numbers: &[u64],
-    plan: &mut [u16],
 ) -> Result<Vec<u64>, Refusal> {
     match (call, bytes, numbers) {
         (Call::Coarsest, [sheet, start, turns, grid, names], []) => {
@@ -44,10 +40,10 @@ fn archive_answer(
         (Call::TestSimulation, [sheet, start, claim], []) => {
             flow::test_simulation(sheet, start, claim).map(|yes| vec![yes.into()])
         }
-        (Call::CheckPlan, [sheet, start], []) => {
+        (Call::CheckPlan, [sheet, start, plan], []) => {
             flow::check_plan(sheet, start, plan).map(|pair| vec![pair.p.into(), pair.q.into()])
         }
-        (Call::WritePlan, [sheet, start], &[p, q]) => {
+        (Call::WritePlan, [sheet, start, plan], &[p, q]) => {
             flow::write_plan(sheet, start, p, q, plan).map(|count| vec![count as u64])
         }
         (Call::HandPlay, [sheet, start], &[p, q, rounds]) => {
@@ -60,31 +56,21 @@ fn archive_answer(
 /// The independent program's outcome.
 pub fn expected(case: &Case) -> Outcome {
     let mut bytes = case.bytes.clone();
-    let mut plan = case.plan.clone();
-    let answer = expected_answer(case.call, &mut bytes, &case.numbers, &mut plan);
-    Outcome {
-        answer,
-        bytes,
-        plan,
-    }
+    let answer = expected_answer(case.call, &mut bytes, &case.numbers);
+    Outcome { answer, bytes }
 }
 
 /// The independent program's call, on the numbers that the bytes carry.
-fn expected_answer(
-    call: Call,
-    bytes: &mut [Vec<u8>],
-    numbers: &[u64],
-    plan: &mut [u16],
-) -> Result<Vec<u64>, u8> {
+fn expected_answer(call: Call, bytes: &mut [Vec<u8>], numbers: &[u64]) -> Result<Vec<u64>, u8> {
     match (call, bytes, numbers) {
         (Call::Coarsest, [sheet, start, turns, grid, names], []) => {
             let start = words(start);
-            let list = numbers16(&turns[..turns.len() / 2 * 2]);
+            let list = list16(turns);
             let (mut kept_words, mut block_names) = (words(grid), numbers16(names));
             let (turns, kept, blocks) =
                 turns::coarsest(sheet, &start, &list, &mut kept_words, &mut block_names)?;
             *grid = carried(&kept_words);
-            *names = block_names.iter().flat_map(|x| x.to_le_bytes()).collect();
+            *names = carried16(&block_names);
             Ok(vec![turns as u64, kept as u64, blocks as u64])
         }
         (Call::Compare, [first, second], []) => {
@@ -102,12 +88,15 @@ fn expected_answer(
             let yes = grid::test_simulation(sheet, &words(start), &words(claim))?;
             Ok(vec![yes.into()])
         }
-        (Call::CheckPlan, [sheet, start], []) => {
-            let (p, q) = plans::check_plan(sheet, &words(start), plan)?;
+        (Call::CheckPlan, [sheet, start, plan], []) => {
+            let (p, q) = plans::check_plan(sheet, &words(start), &list16(plan))?;
             Ok(vec![p.into(), q.into()])
         }
-        (Call::WritePlan, [sheet, start], &[p, q]) => {
-            let count = plans::write_plan(sheet, &words(start), short(p), short(q), plan)?;
+        (Call::WritePlan, [sheet, start, plan], &[p, q]) => {
+            let mut list = list16(plan);
+            let (p, q) = (short(p), short(q));
+            let count = plans::write_plan(sheet, &words(start), p, q, &mut list)?;
+            plan[..2 * list.len()].copy_from_slice(&carried16(&list));
             Ok(vec![count as u64])
         }
         (Call::HandPlay, [sheet, start], &[p, q, rounds]) => {
@@ -134,14 +123,24 @@ fn words(bytes: &[u8]) -> Vec<u64> {
     exactly(bytes, |word| u64::from_le_bytes(*word))
 }
 
-/// The numbers of a turn list or of names.
+/// The numbers of names.
 fn numbers16(bytes: &[u8]) -> Vec<u16> {
     exactly(bytes, |number| u16::from_le_bytes(*number))
+}
+
+/// The numbers of a turn list or of a plan; an odd last byte is ignored.
+fn list16(bytes: &[u8]) -> Vec<u16> {
+    numbers16(&bytes[..bytes.len() / 2 * 2])
 }
 
 /// The bytes that carry words.
 pub fn carried(words: &[u64]) -> Vec<u8> {
     words.iter().flat_map(|word| word.to_le_bytes()).collect()
+}
+
+/// The bytes that carry 16-bit numbers.
+pub fn carried16(numbers: &[u16]) -> Vec<u8> {
+    numbers.iter().flat_map(|x| x.to_le_bytes()).collect()
 }
 
 /// A number in 16 bits; one that does not fit becomes the largest, which is

@@ -40,7 +40,7 @@ fn main() -> ExitCode {
 enum Verdict {
     Open,
     /// The plan that beats the rules.
-    Closed(Vec<u16>),
+    Closed(Vec<u8>),
 }
 
 /// Compares, and writes the plan where the answer is no.
@@ -52,10 +52,10 @@ fn judge(site: &[u8], rules: &[u8]) -> Result<Verdict, Refusal> {
     let pages = number(&joined, 0);
     let mut start = flow::Grid::new(pages);
     flow::end_start(&joined, start.bytes_mut())?;
-    let mut plan = vec![0; 4 * pages * pages];
+    let mut plan = vec![0; flow::ENTRY_BYTES * pages * pages];
     let second = number(site, 0) as u64;
     let entries = flow::write_plan(&joined, start.bytes(), 0, second, &mut plan)?;
-    plan.truncate(4 * entries);
+    plan.truncate(flow::ENTRY_BYTES * entries);
     Ok(Verdict::Closed(plan))
 }
 
@@ -101,7 +101,7 @@ mod tests {
         let rules = Lts::of(1, 2, &[(0, 1, 0), (0, 2, 0)]);
         let (one, other) = (sheet::write(&site), sheet::write(&rules));
         assert_eq!(judge(&one, &other), Ok(Verdict::Open));
-        let plan = vec![0, 1, 2, 0];
+        let plan = vec![0, 0, 1, 0, 2, 0, 0, 0];
         assert_eq!(judge(&other, &one), Ok(Verdict::Closed(plan)));
         assert_eq!(judge(&one, &other[1..]), Err(Refusal::Counts));
         let joined = compare::join(&site, &rules).expect("small flows");

@@ -40,7 +40,7 @@ extern "C" {
         sheet_len: usize,
         start: *const u8,
         start_len: usize,
-        plan: *const u16,
+        plan: *const u8,
         plan_len: usize,
     ) -> u64;
     fn flow_write_plan(
@@ -50,7 +50,7 @@ extern "C" {
         start_len: usize,
         p: u64,
         q: u64,
-        plan: *mut u16,
+        plan: *mut u8,
         plan_len: usize,
     ) -> u64;
     fn flow_hand_play(
@@ -112,7 +112,7 @@ pub fn test_simulation(sheet: &[u8], start: &[u8], claim: &[u8]) -> u64 {
     }
 }
 
-pub fn check_plan(sheet: &[u8], start: &[u8], plan: &[u16]) -> u64 {
+pub fn check_plan(sheet: &[u8], start: &[u8], plan: &[u8]) -> u64 {
     unsafe {
         flow_check_plan(
             sheet.as_ptr(),
@@ -125,7 +125,7 @@ pub fn check_plan(sheet: &[u8], start: &[u8], plan: &[u16]) -> u64 {
     }
 }
 
-pub fn write_plan(sheet: &[u8], start: &[u8], p: u64, q: u64, plan: &mut [u16]) -> u64 {
+pub fn write_plan(sheet: &[u8], start: &[u8], p: u64, q: u64, plan: &mut [u8]) -> u64 {
     unsafe {
         flow_write_plan(
             sheet.as_ptr(),

@@ -2,7 +2,7 @@
 //!
 //! Each function here is one exported call of the proved archive. Sheets,
 //! grids, turn lists and names are bytes, low byte first, exactly as document
-//! 01 lays them out; plans are slices of 16-bit numbers, four an entry.
+//! 01 lays them out; an entry of a plan is four 16-bit numbers, 8 bytes.
 //! A refused call leaves every lent buffer as it was.
 //!
 //! ```
@@ -38,7 +38,7 @@ mod plan;
 mod refusal;
 
 pub use grid::Grid;
-pub use plan::{entries, Entry};
+pub use plan::{entries, Entry, ENTRY_BYTES};
 pub use refusal::Refusal;
 
 use packing::Packed;
@@ -176,16 +176,16 @@ pub fn test_simulation(sheet: &[u8], start: &[u8], claim: &[u8]) -> Result<bool,
 }
 
 /// Check plan: accepts a non-empty plan of sound entries and gives its last
-/// pair. Numbers past the last whole entry count for nothing.
+/// pair. An entry is 8 bytes; bytes past the last whole one count for nothing.
 ///
 /// Refuses with 1 to 6, 8 to 10 and 14.
 ///
 /// ```
 /// let f1 = [1, 0, 0, 0, 0, 0, 0, 0, 0, 0];
 /// let all = [1, 0, 0, 0, 0, 0, 0, 0];
-/// assert_eq!(flow::check_plan(&f1, &all, &[0, 0, 0, 0]), Err(flow::Refusal::Unsound));
+/// assert_eq!(flow::check_plan(&f1, &all, &[0; 8]), Err(flow::Refusal::Unsound));
 /// ```
-pub fn check_plan(sheet: &[u8], start: &[u8], plan: &[u16]) -> Result<Pair, Refusal> {
+pub fn check_plan(sheet: &[u8], start: &[u8], plan: &[u8]) -> Result<Pair, Refusal> {
     let result = archive::check_plan(sheet, start, plan);
     let mut packed = Packed::new("flow_check_plan", result)?;
     let pair = Pair {
@@ -196,17 +196,17 @@ pub fn check_plan(sheet: &[u8], start: &[u8], plan: &[u16]) -> Result<Pair, Refu
 }
 
 /// Write plan: writes the plan for the dropped pair (p, q) and gives its
-/// count of entries. Numbers past them stay as they are. At most n · n
-/// entries are needed.
+/// count of entries, 8 bytes each. Bytes past them stay as they are. At most
+/// n · n entries are needed.
 ///
 /// Refuses with 1 to 6, 8 to 11, 13 and 15.
 ///
 /// ```
 /// let two = [2, 0, 0, 0, 0, 0, 0, 0, 0, 0, 0, 0, 0, 0]; // two pages, no moves
 /// let diagonal = [1, 0, 0, 0, 0, 0, 0, 0, 2, 0, 0, 0, 0, 0, 0, 0];
-/// let mut plan = [9; 5];
+/// let mut plan = [9; 9];
 /// assert_eq!(flow::write_plan(&two, &diagonal, 0, 1, &mut plan), Ok(1));
-/// assert_eq!(plan, [0, 1, 0, 0, 9]);
+/// assert_eq!(plan, [0, 0, 1, 0, 0, 0, 0, 0, 9]);
 /// assert_eq!(flow::write_plan(&two, &diagonal, 1, 1, &mut plan), Err(flow::Refusal::Kept));
 /// ```
 pub fn write_plan(
@@ -214,7 +214,7 @@ pub fn write_plan(
     start: &[u8],
     p: u64,
     q: u64,
-    plan: &mut [u16],
+    plan: &mut [u8],
 ) -> Result<usize, Refusal> {
     let result = archive::write_plan(sheet, start, p, q, plan);
     let mut packed = Packed::new("flow_write_plan", result)?;

@@ -22,17 +22,24 @@ impl fmt::Display for Entry {
     }
 }
 
-/// The whole entries of a plan's numbers; those past the last are left out.
+/// The bytes of an entry: four 16-bit numbers, low byte first.
+pub const ENTRY_BYTES: usize = 8;
+
+/// The whole entries of a plan's bytes; what lies past the last is left out.
 ///
 /// ```
-/// let entries: Vec<String> = flow::entries(&[0, 1, 1, 1, 9]).map(|e| e.to_string()).collect();
+/// let plan = [0, 0, 1, 0, 1, 0, 1, 0, 9];
+/// let entries: Vec<String> = flow::entries(&plan).map(|e| e.to_string()).collect();
 /// assert_eq!(entries, ["(0,1,1,1)"]);
 /// ```
-pub fn entries(plan: &[u16]) -> impl Iterator<Item = Entry> + '_ {
-    plan.chunks_exact(4).map(|e| Entry {
-        p: e[0],
-        q: e[1],
-        a: e[2],
-        t: e[3],
+pub fn entries(plan: &[u8]) -> impl Iterator<Item = Entry> + '_ {
+    plan.chunks_exact(ENTRY_BYTES).map(|entry| {
+        let number = |at: usize| u16::from_le_bytes([entry[2 * at], entry[2 * at + 1]]);
+        Entry {
+            p: number(0),
+            q: number(1),
+            a: number(2),
+            t: number(3),
+        }
     })
 }

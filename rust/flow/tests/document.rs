@@ -63,13 +63,15 @@ fn f3_grid() {
 #[test]
 fn f5_plan() {
     let start = end_start(&F3).expect("a readable sheet");
-    let mut plan = [9; 14];
+    let mut plan = [9; 29];
     let written = flow::write_plan(&F3, start.bytes(), 2, 0, &mut plan);
     assert_eq!(written, Ok(3));
-    assert_eq!(plan, [0, 1, 1, 1, 2, 1, 1, 2, 2, 0, 1, 2, 9, 9]);
+    let numbers: [u16; 12] = [0, 1, 1, 1, 2, 1, 1, 2, 2, 0, 1, 2];
+    assert_eq!(plan[..24], numbers.map(u16::to_le_bytes).concat());
+    assert_eq!(plan[24..], [9; 5]);
     let pair = Pair { p: 2, q: 0 };
     assert_eq!(flow::check_plan(&F3, start.bytes(), &plan), Ok(pair));
-    let short = flow::write_plan(&F3, start.bytes(), 2, 0, &mut plan[..11]);
+    let short = flow::write_plan(&F3, start.bytes(), 2, 0, &mut plan[..23]);
     assert_eq!(short, Err(Refusal::Buffer));
     let kept = flow::write_plan(&F3, start.bytes(), 0, 2, &mut plan);
     assert_eq!(kept, Err(Refusal::Kept));

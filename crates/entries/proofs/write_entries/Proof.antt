@@ -47,7 +47,7 @@ use denote.Triple.Table.{entered, cited}
 use denote.Triple.Walked.{says, Stays, gave-slice, stay-none-slice, stay-none, onExit, walkOf, goes-gave-slice, goes-none-slice, goes-none, Walks, ends-at, walked, walk-meets}
 use denote.Exit.{yes}
 use Rattle.lts.specs.declared.Entry.{Entry}
-use Rattle.lts.specs.Strategy.{entriesOf}
+use Rattle.lts.specs.Strategy.{entriesOf, numbersOf}
 use Rattle.strategy.specs.declared.Written.{Written}
 use Rattle.strategy.proofs.Written as N
 use Rattle.strategy.proofs.Written.Laws as N′
@@ -55,6 +55,7 @@ use Rattle.entries.specs.Entries.{entryCount, WrittenWithin}
 use Rattle.entries.proofs.Element.{R}
 use Rattle.entries.proofs.LocalArray.{array-out, array-room, repeated, length-repeated, repeated-are, repeated-stored, rep-repeated, init-stored}
 use Rattle.entries.proofs.Steps.{big-lit, three}
+use Rattle.entries.proofs.Writings.{plan-room, carried-entries}
 use Rattle.entries.proofs.write_within as wr
 use Rattle.entries.proofs.write_within.Symbol as wr-def
 use Rattle.entries.proofs.write_within.Symbol.{name as #entries·write-within}
@@ -176,7 +177,7 @@ module _ {M : Type 1} (𝓤 : URA M) (H : Heap 𝓤) (A : Atoms 𝓤) (W : Given
       qed W (‵ (flft κ₂ q₂) ∷ ‵ (finally R (x₂ .name) es) ∷ ‵ (flft κ₀ q₀) ∷ ‵ Enc ∷ ‵ (flft κ₁ q₁) ∷ ‵ Pre ∷ []) ∵
       suffices ! _ (ends-at 𝓤 H A f.ended stayed (f.clauses 𝓤 H A mem′ run) W (((κ₀, (κ₁, (κ₂, tt))), (q₀, (q₁, (q₂, tt))), tt, a, at), tt) v t (tt, (tt, (tt, (tt, (es, tt))))) (tt, (tt, (tt, (tt, (len, tt)))))) $
       suffices ! (onExit 𝓤 H A f.ended stayed (κ₀, (κ₁, (κ₂, tt))) (q₀, (q₁, (q₂, tt))) at v t a (tt, (tt, (tt, (tt, (es, tt))))))
-      (three 𝓤 (onExit 𝓤 H A f.ended stayed (κ₀, (κ₁, (κ₂, tt))) (q₀, (q₁, (q₂, tt))) at v t a (tt, (tt, (tt, (tt, (es, tt)))))) (d .answered (x₂ .now) refl) (j ∙ ap (λ (k : ℕ). take k (entriesOf l) ++ drop-list k (x₂ .now)) e ∙ d .carried (x₂ .now) refl) (d .promised)) $
+      (three 𝓤 (onExit 𝓤 H A f.ended stayed (κ₀, (κ₁, (κ₂, tt))) (q₀, (q₁, (q₂, tt))) at v t a (tt, (tt, (tt, (tt, (es, tt)))))) (d .answered (numbersOf (x₂ .now)) (plan-room (x₂ .now))) (j ∙ ap (λ (k : ℕ). take k (entriesOf l) ++ drop-list k (x₂ .now)) e ∙ carried-entries (x₂ .now) d) (d .promised)) $
       nothing ! $ move ! (1 ∷ 0 ∷ []) $ join ! $ move ! (4 ∷ 0 ∷ []) $ join ! $ move ! (2 ∷ 0 ∷ []) $ join ! $ frame ! $
       nothing ! $ move ! (1 ∷ 0 ∷ []) $ fjoin ! $ owned ! usize (Is usize) (uint-makes 𝓤 H A W w64) q _ (refl, q-fits) $ fjoin ! $ owned ! usize (Is usize) (uint-makes 𝓤 H A W w64) p _ (refl, p-fits) $ fjoin ! $
       move ! (2 ∷ 0 ∷ []) $ fjoin ! $ move ! (1 ∷ 0 ∷ []) $ fjoin ! $ owned ! N.the-row (Is N.the-row) (made 𝓤 H A) t (v ∷ []) is $ move ! (1 ∷ 0 ∷ []) $ done !

@@ -11,7 +11,8 @@ use Rattle.relation.specs.Matrix.{inRow, rowOf, rowWords, statesBelow, relation
 use Rattle.relation.proofs.Bounded.{length-listBelow}
 use Rattle.relation.proofs.Rows.{rowOf-cong}
 use Rattle.relation.proofs.Matrices.{inRow-drop, pair-word}
-use Rattle.partition.proofs.Laws.{row-words, states-none, states-skip, states-take, states-same}
+use Rattle.partition.proofs.Laws.{states-none, states-skip, states-take, states-same}
+use Rattle.splitting.proofs.Rows.{row-words}
 use borrow.Author.Needs.{needs}
 use Rattle.partition.proofs.block_of.Statement.{statement}
 use Rattle.partition.proofs.block_of.Tie as tie

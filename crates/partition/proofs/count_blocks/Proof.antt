@@ -10,7 +10,8 @@ use borrow.Author.Tests.{eq-eqb, ne-eqb}
 use Rattle.lts.specs.Bounded.{sumBelow, countBelow, lowest}
 use Rattle.relation.specs.Matrix.{relationOf}
 use Rattle.relation.proofs.Bounded.{sum-none, sum-more, sum-done}
-use Rattle.partition.proofs.Laws.{row-words, row-lowest-test}
+use Rattle.partition.proofs.Laws.{row-lowest-test}
+use Rattle.splitting.proofs.Rows.{row-words}
 use borrow.Author.Needs.{needs}
 use Rattle.partition.proofs.count_blocks.Statement.{statement}
 use Rattle.partition.proofs.count_blocks.Tie as tie

@@ -1,10 +1,10 @@
-use mathlib.Core.Path.{_≡_, sym, ap, _∙_}
-use Prim.Native.Nat.{ℕ, _<_, _≤_}
-use lib.ListN.{length}
+use mathlib.Core.Path.{sym, _∙_}
 use denote.Ref.{now}
-use Rattle.relation.specs.Matrix.{inRow, relationOf}
-use Rattle.relation.proofs.Matrices.{formed-of, length-matrixOf}
-use Rattle.partition.proofs.Classes.{members-out, grown, blocks-next}
+use Rattle.lts.specs.Refinement.{block}
+use Rattle.relation.specs.Matrix.{relationOf}
+use Rattle.relation.proofs.Matrices.{formed-of}
+use Rattle.partition.proofs.Classes.{grown, blocks-next}
+use Rattle.partition.proofs.Laws.{states-clear}
 use borrow.Author.Needs.{needs}
 use Rattle.partition.proofs.write_block.Statement.{statement}
 use Rattle.partition.proofs.write_block.Tie as tie
@@ -27,7 +27,7 @@ set-views-requires : tie.Need-set-views-requires
 set-views-requires c κs =
     let a = c .before .before .before .before .before .before .before .before .before .before .args in
     let pre = c .before .before .before .before .before .before .before .before .before .before .pre .0 in
-    ((pre .0, formed-of _ _ (c .before .before .before .before .before .before .before .before .before .before .pre .1)), λ q l h. members-out (a .n) (a .p) (relationOf (a .n) (now (a .related))) _ (c .before .before .before .block-of .ensures) q l h)
+    ((pre .0, formed-of _ _ (c .before .before .before .before .before .before .before .before .before .before .pre .1)), λ q l h. states-clear (a .n) (block (relationOf (a .n) (now (a .related))) (a .p)) (c .before .before .before .block-of .ensures) q l h)
 
 slice-aggregate-row-union : tie.Need-slice-aggregate-row-union
 slice-aggregate-row-union c = search needs

@@ -9,7 +9,8 @@ use Rattle.lts.specs.Bounded.{listBelow, lowest}
 use Rattle.relation.specs.Matrix.{inRow, rowWords, relationOf}
 use Rattle.relation.proofs.Bounded.{fill-more, lowest-lt}
 use Rattle.relation.proofs.Checks.{row-lowest}
-use Rattle.partition.proofs.Laws.{fill-done, row-words}
+use Rattle.partition.proofs.Laws.{fill-done}
+use Rattle.splitting.proofs.Rows.{row-words}
 use borrow.Author.Needs.{needs}
 use Rattle.partition.proofs.write_names.Statement.{statement}
 use Rattle.partition.proofs.write_names.Tie as tie

@@ -5,7 +5,8 @@ use lib.ListN.{length, getD}
 use denote.Ref.{now}
 use Rattle.relation.specs.Matrix.{relationOf, matrixOf}
 use Rattle.relation.proofs.Matrices.{matrix-relation, formed-of, length-matrixOf}
-use Rattle.predecessors.proofs.Laws.{part-length, keptBelow, kept-none, kept-more}
+use Rattle.relation.proofs.Rows.{part-length}
+use Rattle.predecessors.proofs.Laws.{keptBelow, kept-none, kept-more}
 use borrow.Author.Needs.{needs}
 use Rattle.predecessors.proofs.keep_enabled.Statement.{statement}
 use Rattle.predecessors.proofs.keep_enabled.Tie as tie

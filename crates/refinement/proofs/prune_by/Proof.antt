@@ -1,27 +1,21 @@
-use mathlib.Core.Path.{_≡_, sym, ap, _∙_}
-use Prim.Native.Nat.{ℕ, _<_, _≤_}
+-- `refinement::prune_by` meets its contract. Assumes nothing.
+use mathlib.Core.Path.{sym, _∙_}
+use Prim.Native.Nat.{_*_}
 use native.Mathlib.Omega.{arith}
-use lib.ListN.{length}
 use denote.Ref.{now}
-use Rattle.relation.specs.Matrix.{inRow, relationOf, Matrix}
-use Rattle.splitting.proofs.Touched.{covered-meeting}
-use Rattle.refinement.proofs.Touched.{prune-untouched}
+use Rattle.relation.specs.Matrix.{inRow, relationOf}
+use Rattle.relation.proofs.Matrices.{matrix-relation}
+use Rattle.refinement.proofs.Actions.{any-off}
+use Rattle.refinement.proofs.Touched.{untouched-none, prune-idle, prune-untouched}
 use borrow.Author.Needs.{needs}
 use Rattle.refinement.proofs.prune_by.Statement.{statement}
 use Rattle.refinement.proofs.prune_by.Tie as tie
 
-meeting-rows-requires : tie.Need-meeting-rows-requires
-meeting-rows-requires c κs =
-    (c .before .before .before .before .pre .0, c .before .before .before .before .pre .2, c .before .before .before .before .pre .3)
+row-any-requires : tie.Need-row-any-requires
+row-any-requires c κs = search needs
 
-prune-related-requires : tie.Need-prune-related-requires
-prune-related-requires c κs =
-    let a = c .before .before .before .before .before .before .before .args in
-    let pre = c .before .before .before .before .before .before .before .pre in
-    ((pre .0, pre .1, pre .2, pre .3), covered-meeting (a .n) (relationOf (a .n) (now (a .blocks))) (inRow (now (a .shared))) (pre .4) _ (inRow (now (a .hits))) (c .before .before .meeting-rows .ensures))
-
-slice-aggregate-row-union : tie.Need-slice-aggregate-row-union
-slice-aggregate-row-union c = search needs
+remove-from-requires : tie.Need-remove-from-requires
+remove-from-requires c κs = search needs
 
 row-union-requires : tie.Need-row-union-requires
 row-union-requires c κs = search needs
@@ -34,22 +28,30 @@ same-length-2 c = search needs
 
 returns : tie.Need-returns
 returns c =
-    let a = c .before .before .before .before .before .before .before .before .before .before .before .before .before .before .before .args in
-    let pre = c .before .before .before .before .before .before .before .before .before .before .before .before .before .before .before .pre in
-    let P = relationOf (a .n) (now (a .blocks)) in
-    let related = c .before .before .before .before .before .before .before .prune-related .ensures in (
+    let a = c .before .before .before .before .before .before .before .before .before .before .before .before .before .before .args in
+    let pre = c .before .before .before .before .before .before .before .before .before .before .before .before .before .before .pre in
+    let related = c .before .before .before .before .before .before .before .remove-from .ensures in (
       related,
-      prune-untouched (a .n) (now (a .related)) (now (a .blocks)) (now (a .touched)) _ _ (pre .0) (pre .5) (c .before .before .row-union .ensures) (inRow (now (a .rem))) (inRow (now (a .hits))) _ (covered-meeting (a .n) P (inRow (now (a .shared))) (pre .4) _ (inRow (now (a .hits))) (c .before .before .before .before .before .before .before .before .before .before .meeting-rows .ensures)) related,
+      λ blocks. prune-untouched (a .n) (now (a .related)) blocks (now (a .touched)) _ _ (pre .0) (pre .2) (c .before .before .row-union .ensures) (inRow (now (a .rem))) _ related,
+    )
+
+returns-2 : tie.Need-returns-2
+returns-2 c =
+    let a = c .before .before .before .before .before .args in
+    let pre = c .before .before .before .before .before .pre in (
+      matrix-relation _ _ (pre .1) (λ j. c .before .before .before .before .slice-known .given j .fits)
+          ∙ prune-idle (a .n) (inRow (now (a .rem))) (inRow (now (a .hit))) (relationOf (a .n) (now (a .related))) (λ g h. any-off (4 * 64) (inRow (now (a .hit))) (sym (c .if1 .left) ∙ c .before .row-any .ensures) g (omega (arith, pre .0, h))),
+      λ blocks. untouched-none (a .n) _ _ _ (pre .2),
     )
 
 pub prune-by-spec : {M : Type 1} → statement M
 prune-by-spec =
     tie.close
     (tie.spec
-    meeting-rows-requires
-    prune-related-requires
-    slice-aggregate-row-union
+    row-any-requires
+    remove-from-requires
     row-union-requires
     same-length
     same-length-2
-    returns)
+    returns
+    returns-2)

@@ -1,55 +1,59 @@
-use mathlib.Core.Path.{_≡_, sym, ap, _∙_}
-use mathlib.Core.Bool.{Bool, true, _&&_}
-use mathlib.Core.List.{List}
-use Prim.Native.Nat.{ℕ, _<_, _≤_}
+-- `refinement::split_by` meets its contract. Assumes nothing.
+use mathlib.Core.Path.{_≡_, sym, _∙_}
+use mathlib.Core.Bool.{false}
+use Prim.Native.Nat.{ℕ, _*_, _<_}
 use native.Mathlib.Omega.{arith}
 use lib.ListN.{length}
 use denote.Ref.{now}
-use Rattle.lts.specs.System.{Set, Rel}
-use Rattle.relation.specs.Matrix.{inRow, rowOf, relationOf, Matrix}
-use Rattle.relation.proofs.Rows.{inRow-of}
-use Rattle.relation.proofs.Matrices.{formed-of, relation-of}
-use Rattle.splitting.specs.Split.{Covers, Unsplit, Parted}
-use Rattle.splitting.proofs.Touched.{covered-unsplit, parted-split, parted-cong}
-use Rattle.refinement.proofs.Touched.{split-untouched}
+use Rattle.relation.specs.Matrix.{inRow, relationOf}
+use Rattle.relation.proofs.Matrices.{relation-of, matrix-relation}
+use Rattle.splitting.proofs.Touched.{parted-split, parted-cong}
+use Rattle.refinement.proofs.Actions.{any-off}
+use Rattle.refinement.proofs.Touched.{untouched-none, split-idle, rest-kept, split-untouched}
 use borrow.Author.Needs.{needs}
 use Rattle.refinement.proofs.split_by.Statement.{statement}
 use Rattle.refinement.proofs.split_by.Tie as tie
 
--- the rows of the common states are all that the split can change
-whole : (n : ℕ) (P : Rel) (rem shared common rows : List ℕ) → n ≤ 256 → Parted n P (inRow shared) → common ≡ rowOf 4 (λ q. inRow rem q && inRow shared q)
-    → Covers n P n (inRow common) (inRow rows) → Unsplit n P (inRow rem) (inRow rows)
-whole n P rem shared common rows small parts is covers =
-    covered-unsplit n P (inRow shared) parts (inRow rows) (inRow rem) (λ x g hx hg l s p.
-    covers x g hx hg l (ap (λ (k : List ℕ). inRow k x) is ∙ inRow-of 4 (λ q. inRow rem q && inRow shared q) x (omega (arith, small, hx)) ∙ s) p)
+split-rows-requires : tie.Need-split-rows-requires
+split-rows-requires c κs =
+    (c .before .before .before .before .pre .0 .0, c .before .before .before .before .pre .0 .2, c .before .before .before .before .pre .0 .3)
 
-common-states-requires : tie.Need-common-states-requires
-common-states-requires c κs = search needs
+slice-aggregate-row-any : tie.Need-slice-aggregate-row-any
+slice-aggregate-row-any c = search needs
 
-slice-aggregate-meeting-rows : tie.Need-slice-aggregate-meeting-rows
-slice-aggregate-meeting-rows c = search needs
+row-any-requires : tie.Need-row-any-requires
+row-any-requires c κs = search needs
 
-meeting-rows-requires : tie.Need-meeting-rows-requires
-meeting-rows-requires c κs =
-    (c .before .before .before .before .before .before .pre .0, c .before .before .before .before .before .before .pre .2, search needs)
+slice-aggregate-row-copy : tie.Need-slice-aggregate-row-copy
+slice-aggregate-row-copy c = search needs
+
+slice-aggregate-row-copy-2 : tie.Need-slice-aggregate-row-copy-2
+slice-aggregate-row-copy-2 c = search needs
+
+row-copy-requires : tie.Need-row-copy-requires
+row-copy-requires c κs = search needs
+
+slice-aggregate-row-minus : tie.Need-slice-aggregate-row-minus
+slice-aggregate-row-minus c = search needs
+
+row-minus-requires : tie.Need-row-minus-requires
+row-minus-requires c κs = search needs
 
 split-related-requires : tie.Need-split-related-requires
 split-related-requires c κs =
-    let a = c .before .before .before .before .before .before .before .before .before .before .args in
-    let pre = c .before .before .before .before .before .before .before .before .before .before .pre in
-    ((pre .0, pre .1, pre .2), whole (a .n) (relationOf (a .n) (now (a .blocks))) (now (a .rem)) (now (a .shared)) _ _ (pre .0) (pre .3) (c .before .before .before .before .before .before .common-states .ensures) (c .before .before .before .meeting-rows .ensures))
+    ((c .before .before .before .before .before .before .before .before .before .before .before .before .before .before .before .before .before .before .before .pre .0 .0, c .before .before .before .before .before .before .before .before .before .before .before .before .before .before .before .before .before .before .before .pre .0 .1, c .before .before .before .before .before .before .before .before .before .before .before .before .before .before .before .before .before .before .before .pre .0 .2), rest-kept (c .before .before .before .before .before .before .before .before .before .before .before .before .before .before .before .before .before .before .before .args .n) (inRow (now (c .before .before .before .before .before .before .before .before .before .before .before .before .before .before .before .before .before .before .before .args .rem))) (relationOf (c .before .before .before .before .before .before .before .before .before .before .before .before .before .before .before .before .before .before .before .args .n) (now (c .before .before .before .before .before .before .before .before .before .before .before .before .before .before .before .before .before .before .before .args .related))) (relationOf (c .before .before .before .before .before .before .before .before .before .before .before .before .before .before .before .before .before .before .before .args .n) (now (c .before .before .before .before .before .before .before .before .before .before .before .before .before .before .before .before .before .before .before .args .blocks))) (c .before .before .before .before .before .before .before .before .before .before .before .before .before .before .split-rows .result) (now (c .before .before .before .before .before .before .before .before .before .before .before .before .before .before .before .before .before .before .before .args .hit)) _ _ (c .before .before .before .before .before .before .before .before .before .before .before .before .before .before .before .before .before .before .before .pre .0 .0) (c .before .before .before .before .before .before .before .before .row-copy .ensures) (c .before .before .before .before .row-minus .ensures) (c .before .before .before .before .before .before .before .before .before .before .before .before .before .before .split-rows .ensures) (c .before .before .before .before .before .before .before .before .before .before .before .before .before .before .before .before .before .before .before .pre .1))
 
 split-blocks-requires : tie.Need-split-blocks-requires
 split-blocks-requires c κs =
-    let a = c .before .before .before .before .before .before .before .before .before .before .before .before .before .before .before .args in
-    let pre = c .before .before .before .before .before .before .before .before .before .before .before .before .before .before .before .pre in
-    ((pre .0, pre .2), whole (a .n) (relationOf (a .n) (now (a .blocks))) (now (a .rem)) (now (a .shared)) _ _ (pre .0) (pre .3) (c .before .before .before .before .before .before .before .before .before .before .before .common-states .ensures) (c .before .before .before .before .before .before .before .before .meeting-rows .ensures))
+    ((c .before .before .before .before .before .before .before .before .before .before .before .before .before .before .before .before .before .before .before .before .before .before .before .before .pre .0 .0, c .before .before .before .before .before .before .before .before .before .before .before .before .before .before .before .before .before .before .before .before .before .before .before .before .pre .0 .2), c .before .before .before .before .before .before .before .before .before .before .before .before .before .before .before .before .before .before .before .split-rows .ensures)
 
 slice-aggregate-row-union : tie.Need-slice-aggregate-row-union
 slice-aggregate-row-union c = search needs
 
 row-union-requires : tie.Need-row-union-requires
-row-union-requires c κs = search needs
+row-union-requires c κs =
+    let long : length (now (c .before .before .before .before .before .before .before .before .before .before .before .before .before .before .before .before .before .before .before .before .before .before .before .before .before .before .before .before .before .args .touched)) ≡ 4 = c .before .before .before .before .before .before .before .before .before .before .before .before .before .before .before .before .before .before .before .before .before .before .before .before .before .before .before .before .before .pre .0 .4 in
+    (omega (arith, long), search needs)
 
 same-length : tie.Need-same-length
 same-length c = search needs
@@ -62,8 +66,8 @@ same-length-3 c = search needs
 
 returns : tie.Need-returns
 returns c =
-    let a = c .before .before .before .before .before .before .before .before .before .before .before .before .before .before .before .before .before .before .before .before .before .before .before .args in
-    let pre = c .before .before .before .before .before .before .before .before .before .before .before .before .before .before .before .before .before .before .before .before .before .before .before .pre in
+    let a = c .before .before .before .before .before .before .before .before .before .before .before .before .before .before .before .before .before .before .before .before .before .before .before .before .before .before .before .before .before .before .before .before .args in
+    let pre = c .before .before .before .before .before .before .before .before .before .before .before .before .before .before .before .before .before .before .before .before .before .before .before .before .before .before .before .before .before .before .before .before .pre .0 in
     let P = relationOf (a .n) (now (a .blocks)) in
     let Rem = inRow (now (a .rem)) in
     let related = c .before .before .before .before .before .before .before .before .before .before .before .before .split-related .ensures in
@@ -72,8 +76,27 @@ returns c =
       (
         blocks,
         (
-          split-untouched (a .n) (now (a .related)) (now (a .blocks)) (now (a .touched)) _ _ (pre .0) (pre .4) (c .before .before .row-union .ensures) Rem _ _ (whole (a .n) P (now (a .rem)) (now (a .shared)) _ _ (pre .0) (pre .3) (c .before .before .before .before .before .before .before .before .before .before .before .before .before .before .before .before .before .before .before .common-states .ensures) (c .before .before .before .before .before .before .before .before .before .before .before .before .before .before .before .before .meeting-rows .ensures)) related blocks,
+          split-untouched (a .n) (now (a .related)) (now (a .blocks)) (now (a .touched)) _ _ (pre .0) (pre .4) (c .before .before .row-union .ensures) Rem _ _ (c .before .before .before .before .before .before .before .before .before .before .before .before .before .before .before .before .before .before .before .before .before .before .before .before .before .before .before .split-rows .ensures) related blocks,
           parted-cong (a .n) _ _ (inRow (now (a .shared))) (relation-of (a .n) _ blocks) (parted-split (a .n) P (inRow (now (a .shared))) Rem (pre .3)),
+        ),
+      ),
+    )
+
+same-length-4 : tie.Need-same-length-4
+same-length-4 c = search needs
+
+returns-2 : tie.Need-returns-2
+returns-2 c =
+    let a = c .before .before .before .before .before .before .before .before .args in
+    let pre = c .before .before .before .before .before .before .before .before .pre .0 in
+    let none : (g : ℕ) → g < a .n → inRow (c .before .before .before .split-rows .result) g ≡ false = λ g h. any-off (4 * 64) (inRow (c .before .before .before .split-rows .result)) (sym (c .if1 .left) ∙ c .before .row-any .ensures) g (omega (arith, pre .0, h)) in
+    let idle = split-idle (a .n) (inRow (now (a .rem))) _ (relationOf (a .n) (now (a .related))) (relationOf (a .n) (now (a .blocks))) (c .before .before .before .split-rows .ensures) none in (
+      matrix-relation _ _ (pre .1) (λ j. c .before .before .before .before .before .before .before .slice-known .given j .fits) ∙ idle .0,
+      (
+        matrix-relation _ _ (pre .2) (λ j. c .before .before .before .before .before .before .slice-known2 .given j .fits) ∙ idle .1,
+        (
+          untouched-none (a .n) _ _ _ (pre .4),
+          pre .3,
         ),
       ),
     )
@@ -82,9 +105,14 @@ pub split-by-spec : {M : Type 1} → statement M
 split-by-spec =
     tie.close
     (tie.spec
-    common-states-requires
-    slice-aggregate-meeting-rows
-    meeting-rows-requires
+    split-rows-requires
+    slice-aggregate-row-any
+    row-any-requires
+    slice-aggregate-row-copy
+    slice-aggregate-row-copy-2
+    row-copy-requires
+    slice-aggregate-row-minus
+    row-minus-requires
     split-related-requires
     split-blocks-requires
     slice-aggregate-row-union
@@ -92,4 +120,6 @@ split-by-spec =
     same-length
     same-length-2
     same-length-3
-    returns)
+    returns
+    same-length-4
+    returns-2)

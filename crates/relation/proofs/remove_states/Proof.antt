@@ -1,12 +1,10 @@
--- `relation::remove_states` meets its contract: by `row-zipped`. Assumes nothing.
-use mathlib.Core.Path.{refl, _∙_}
-use mathlib.Core.Bool.{not, _&&_}
+-- `relation::remove_states` meets its contract: by `row-removed`. Assumes nothing.
 use Prim.Native.Nat.{_≤_, _+_, _*_}
 use native.Mathlib.Omega.{arith}
 use lib.ListN.{length, length-drop}
 use denote.Ref.{now}
-use Rattle.relation.specs.Matrix.{inRow, relationOf, rowWords}
-use Rattle.relation.proofs.Matrices.{row-room, tail-part, row-zipped, without-row, matrixOf-cong}
+use Rattle.relation.specs.Matrix.{inRow, rowWords}
+use Rattle.relation.proofs.Matrices.{row-room, tail-part, row-removed}
 use borrow.Author.Needs.{needs}
 use Rattle.relation.proofs.remove_states.Statement.{statement}
 use Rattle.relation.proofs.remove_states.Tie as tie
@@ -44,9 +42,8 @@ returns c =
     let start = c .before .before .before .before .before .before in
     let a = start .args in
     let g = now (a .grid) in
-    row-zipped (a .n) (a .p) g (λ a b. a && not b) (inRow (now (a .mask))) (λ b. refl) (start .pre .0) (λ j. c .before .before .before .before .before .slice-known .given j .fits) (start .pre .2)
+    row-removed (a .n) (a .p) g (inRow (now (a .mask))) (start .pre .0) (λ j. c .before .before .before .before .before .slice-known .given j .fits) (start .pre .2)
     (c .before .before .row-minus .last .0) (c .before .before .row-minus .ensures)
-    ∙ matrixOf-cong (a .n) _ _ (λ t q ht hq. without-row (a .p) (inRow (now (a .mask))) (relationOf (a .n) g) t q)
 
 pub remove-states-spec : {M : Type 1} → statement M
 remove-states-spec =

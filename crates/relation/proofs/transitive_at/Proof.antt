@@ -1,56 +1,69 @@
--- `relation::transitive_at` meets its contract: state by state. Assumes nothing.
-use mathlib.Core.Path.{_≡_, sym, _∙_}
-use mathlib.Core.Bool.{true}
-use Prim.Native.Nat.{ℕ, _≤_, _<_, _-_}
-use native.Mathlib.Omega.{arith}
-use borrow.Author.Count.{below-none, below-more}
+-- `relation::transitive_at` meets its contract: what is left after the states above is tested last. Assumes nothing.
+use mathlib.Core.Path.{sym, subst⁻¹}
+use mathlib.Core.List.{List}
+use Prim.Native.Nat.{ℕ, _≤_}
+use lib.ListN.{length}
+use denote.Ref.{now}
 use borrow.Author.Tests.{not-true, not-false}
-use Rattle.relation.specs.Matrix.{relationOf}
-use Rattle.relation.specs.Check.{transitivePair, transitiveAt}
-use Rattle.relation.proofs.Bounded.{all-yes, all-not}
+use Rattle.relation.specs.Matrix.{rowWords}
+use Rattle.relation.proofs.Matrices.{row-long}
+use Rattle.relation.proofs.Transitivity.{left-whole}
 use borrow.Author.Needs.{needs}
 use Rattle.relation.proofs.transitive_at.Statement.{statement}
 use Rattle.relation.proofs.transitive_at.Tie as tie
 
-abbrev Inv-loop : tie.InvT-loop
-Inv-loop grid n p q₀ q = (q ≤ n) × ((t : ℕ) → t < q → transitivePair n (relationOf n grid) p t ≡ true)
+add-w : tie.Need-add-w
+add-w c = search needs
 
-abbrev μ-loop : tie.MeasureT-loop
-μ-loop grid n p q₀ q = n - q
+slice-aggregate-row-copy : tie.Need-slice-aggregate-row-copy
+slice-aggregate-row-copy c = search needs
 
-loop-holds : tie.Need-loop-holds Inv-loop μ-loop
-loop-holds c = (search needs, below-none _)
+row-at-requires : tie.Need-row-at-requires
+row-at-requires c κs = search needs
 
-transitive-pair-requires : tie.Need-transitive-pair-requires Inv-loop μ-loop
-transitive-pair-requires c κs = search needs
+row-copy-requires : tie.Need-row-copy-requires
+row-copy-requires c κs =
+    let start = c .before .before .before in (
+      search needs,
+      subst⁻¹ (λ (l : List ℕ). rowWords (start .args .n) ≤ length l) (c .row-at .ensures) (row-long (start .args .n) (now (start .args .grid)) (start .pre .0 .2) (start .pre .0 .0 .long)),
+    )
 
-returns : tie.Need-returns Inv-loop μ-loop
-unfolding transitiveAt
-returns c = all-not _ _ (c .before .before .before .loop .q) (c .before .before .loop-test .taken) (sym (c .before .transitive-pair .ensures) ∙ not-true _ (c .if1 .taken))
+slice-aggregate-transitive-above : tie.Need-slice-aggregate-transitive-above
+slice-aggregate-transitive-above c = search needs
 
-add-q : tie.Need-add-q Inv-loop μ-loop
-add-q c = search needs
+transitive-above-requires : tie.Need-transitive-above-requires
+transitive-above-requires c κs =
+    let copy = c .before .before in
+    let start = copy .before .before .before .before in
+    let whole = left-whole (start .args .n) (now (start .args .grid)) (start .args .p) _ _ _ (search needs) (copy .before .row-at .ensures) (copy .row-copy .ensures) in
+    ((start .pre .0 .0, start .pre .0 .1, start .pre .0 .2, whole), start .pre .1)
 
-loop-less : tie.Need-loop-less Inv-loop μ-loop
-loop-less c = search needs
+returns : tie.Need-returns
+returns c = sym (c .before .before .transitive-above .ensures .0 (not-true _ (c .if1 .taken)))
 
-loop-again : tie.Need-loop-again Inv-loop μ-loop
-loop-again c = (search needs, below-more _ _ (c .before .before .before .loop .inv .1) (sym (c .before .transitive-pair .ensures) ∙ not-false _ (c .if1 .left)))
+slice-aggregate-transitive-rest : tie.Need-slice-aggregate-transitive-rest
+slice-aggregate-transitive-rest c = search needs
 
-returns-2 : tie.Need-returns-2 Inv-loop μ-loop
-unfolding transitiveAt
-returns-2 c = all-yes _ _ (λ i h. c .before .loop .inv .1 i (omega arith))
+transitive-rest-requires : tie.Need-transitive-rest-requires
+transitive-rest-requires c κs =
+    let above = c .before .before .before in
+    let start = above .before .before .before .before .before .before .before in
+    (start .pre .0 .0, start .pre .0 .1, start .pre .0 .2, above .transitive-above .ensures .1 (not-false _ (c .before .if1 .left)))
+
+returns-2 : tie.Need-returns-2
+returns-2 c = search needs
 
 pub transitive-at-spec : {M : Type 1} → statement M
 transitive-at-spec =
     tie.close
     (tie.spec
-    Inv-loop
-    μ-loop
-    loop-holds
-    transitive-pair-requires
+    add-w
+    slice-aggregate-row-copy
+    row-at-requires
+    row-copy-requires
+    slice-aggregate-transitive-above
+    transitive-above-requires
     returns
-    add-q
-    loop-less
-    loop-again
+    slice-aggregate-transitive-rest
+    transitive-rest-requires
     returns-2)

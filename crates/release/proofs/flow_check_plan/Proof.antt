@@ -13,11 +13,11 @@ load-grid-requires c κs = search needs
 array-share-prefix-words : tie.Need-array-share-prefix-words
 array-share-prefix-words c = search needs
 
-slice-aggregate-check-strategy : tie.Need-slice-aggregate-check-strategy
-slice-aggregate-check-strategy c = sym (length-take-le _ _ (omega (arith, c .before .load-grid .ensures .few, c .before .load-grid .ensures .long)))
+slice-aggregate-check-bytes : tie.Need-slice-aggregate-check-bytes
+slice-aggregate-check-bytes c = sym (length-take-le _ _ (omega (arith, c .before .load-grid .ensures .few, c .before .load-grid .ensures .long)))
 
-check-strategy-requires : tie.Need-check-strategy-requires
-check-strategy-requires c κs = search needs
+check-bytes-requires : tie.Need-check-bytes-requires
+check-bytes-requires c κs = search needs
 
 enum-known-answer : tie.Need-enum-known-answer
 enum-known-answer c = search needs
@@ -30,24 +30,24 @@ enum-known-answer-2 c = search needs
 
 mul-result : tie.Need-mul-result
 mul-result c =
-    let b = last-few _ _ _ _ _ (sym (c .before .before .before .check-strategy .ensures .0) ∙ c .before .answer2 .given .1) in
+    let b = last-few _ _ _ _ _ (sym (c .before .before .before .check-bytes .ensures .0) ∙ c .before .answer2 .given .1) in
     omega (arith, b .0, b .1)
 
 mul-result-2 : tie.Need-mul-result-2
 mul-result-2 c =
-    let b = last-few _ _ _ _ _ (sym (c .before .before .before .check-strategy .ensures .0) ∙ c .before .answer2 .given .1) in
+    let b = last-few _ _ _ _ _ (sym (c .before .before .before .check-bytes .ensures .0) ∙ c .before .answer2 .given .1) in
     omega (arith, b .0, b .1)
 
 add-result : tie.Need-add-result
 add-result c =
-    let b = last-few _ _ _ _ _ (sym (c .before .before .before .check-strategy .ensures .0) ∙ c .before .answer2 .given .1) in
+    let b = last-few _ _ _ _ _ (sym (c .before .before .before .check-bytes .ensures .0) ∙ c .before .answer2 .given .1) in
     omega (arith, b .0, b .1)
 
 returns : tie.Need-returns
-returns c = rw (← c .before .before .before .before .before .before .load-grid .ensures .loaded, ← c .before .before .before .before .check-strategy .ensures .0, c .before .before .answer .given .1) (c .refusal-number .ensures)
+returns c = rw (← c .before .before .before .before .before .before .load-grid .ensures .loaded, ← c .before .before .before .before .check-bytes .ensures .0, c .before .before .answer .given .1) (c .refusal-number .ensures)
 
 returns-2 : tie.Need-returns-2
-returns-2 c = rw (← c .before .before .before .before .before .load-grid .ensures .loaded, ← c .before .before .before .check-strategy .ensures .0, c .before .answer2 .given .1)
+returns-2 c = rw (← c .before .before .before .before .before .load-grid .ensures .loaded, ← c .before .before .before .check-bytes .ensures .0, c .before .answer2 .given .1)
 
 pub flow-check-plan-spec : {M : Type 1} → statement M
 flow-check-plan-spec =
@@ -55,8 +55,8 @@ flow-check-plan-spec =
     (tie.spec
     load-grid-requires
     array-share-prefix-words
-    slice-aggregate-check-strategy
-    check-strategy-requires
+    slice-aggregate-check-bytes
+    check-bytes-requires
     enum-known-answer
     refusal-number-requires
     enum-known-answer-2

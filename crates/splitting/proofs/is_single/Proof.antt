@@ -1,4 +1,4 @@
-use mathlib.Core.Path.{_≡_, refl, sym, ap, _∙_, subst⁻¹}
+use mathlib.Core.Path.{_≡_, refl, sym, ap, _∙_}
 use mathlib.Core.List.{List}
 use mathlib.Core.Logic.{⊎-elim}
 use mathlib.Core.Bool.{Bool, true, false, _&&_, true≢false}
@@ -6,12 +6,13 @@ use Prim.Native.Nat.{ℕ, _+_, _*_, _≤_, _<_}
 use native.Mathlib.Nat.{eq-or-lt-of-le}
 use native.Mathlib.Omega.{arith}
 use lib.Dec.{eqb, leb}
-use lib.ListN.{length, drop}
+use lib.ListN.{drop}
 use borrow.Author.Tests.{eqb-true, leb-true}
 use denote.Ref.{now}
 use Rattle.relation.specs.Matrix.{inRow, rowWords, relationOf, Next}
 use Rattle.relation.proofs.Bounded.{lt-or-ge}
-use Rattle.relation.proofs.Matrices.{row-long, inRow-drop}
+use Rattle.relation.proofs.Matrices.{inRow-drop}
+use Rattle.splitting.proofs.Rows.{row-words}
 use borrow.Author.Needs.{needs}
 use Rattle.splitting.proofs.is_single.Statement.{statement}
 use Rattle.splitting.proofs.is_single.Tie as tie
@@ -41,7 +42,7 @@ next-state-requires : tie.Need-next-state-requires
 next-state-requires c κs =
     let start = c .before .before in
     let n = start .args .n in
-    (subst⁻¹ (λ (l : List ℕ). rowWords n ≤ length l) (c .row-at .ensures) (row-long n (now (start .args .grid)) (start .pre .2) (start .pre .1 .long)), omega (arith, start .pre .0), search needs)
+    (row-words n (now (start .args .grid)) (c .row-at .ensures) (start .pre .2) (start .pre .1), omega (arith, start .pre .0), search needs)
 
 add-next-state : tie.Need-add-next-state
 add-next-state c = search needs
@@ -50,7 +51,7 @@ next-state-requires-2 : tie.Need-next-state-requires-2
 next-state-requires-2 c κs =
     let start = c .before .before .before in
     let n = start .args .n in
-    (subst⁻¹ (λ (l : List ℕ). rowWords n ≤ length l) (c .before .row-at .ensures) (row-long n (now (start .args .grid)) (start .pre .2) (start .pre .1 .long)), omega (arith, start .pre .0), omega (arith, start .pre .2))
+    (row-words n (now (start .args .grid)) (c .before .row-at .ensures) (start .pre .2) (start .pre .1), omega (arith, start .pre .0), omega (arith, start .pre .2))
 
 returns : tie.Need-returns
 returns c =

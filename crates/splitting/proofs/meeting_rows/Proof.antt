@@ -1,78 +1,131 @@
-use mathlib.Core.Path.{_≡_, refl, sym, ap, _∙_, subst⁻¹}
+use mathlib.Core.Path.{_≡_, refl, sym, ap, ap₂, _∙_}
 use mathlib.Core.List.{List, _++_}
 use mathlib.Core.Logic.{⊎-elim}
-use mathlib.Core.Bool.{Bool, true, false, _||_, true≢false}
+use mathlib.Core.Bool.{Bool, true, false, not, _&&_, _||_, or-true}
 use Prim.Native.Nat.{ℕ, _+_, _*_, _≤_, _<_, _-_}
-use native.Mathlib.Nat.{eq-or-lt-of-le}
 use native.Mathlib.Omega.{arith}
-use lib.ListN.{length, drop, length-append, length-drop}
+use lib.ListN.{length, drop, replicate}
 use denote.Ref.{now}
+use Rattle.lts.specs.Bounded.{anyBelow}
 use Rattle.lts.specs.System.{Set, Rel}
-use Rattle.relation.specs.Matrix.{inRow, rowOf, wordAt, rowWords, relationOf, Matrix, Next}
-use Rattle.relation.proofs.Bounded.{lt-or-ge, length-listBelow}
-use Rattle.relation.proofs.Rows.{inRow-written}
-use Rattle.relation.proofs.Matrices.{row-long, inRow-drop}
-use Rattle.splitting.specs.Split.{Covers}
+use Rattle.relation.specs.Matrix.{inRow, rowOf, rowWords, relationOf, Next}
+use Rattle.relation.proofs.Bounded.{clash, either, bool-iff, and-fst, and-snd, any-yes, any-some}
+use Rattle.relation.proofs.Rows.{inRow-zeros, inRow-written, length-written}
+use Rattle.splitting.specs.Split.{Meets, Equivalence}
+use Rattle.splitting.proofs.Rows.{row-words, zipped-row}
+use Rattle.splitting.proofs.Sweep.{Swept, sweep-first, sweep-next, sweep-end}
 use borrow.Author.Needs.{needs}
 use Rattle.splitting.proofs.meeting_rows.Statement.{statement}
 use Rattle.splitting.proofs.meeting_rows.Tie as tie
 
--- from one member to the next, with the first one's row added
-module _ (n : ℕ) (grid : List ℕ) (S : Set) (out row out′ : List ℕ) (x x′ : ℕ) (small : n ≤ 256) (long : length out ≡ 4)
-    (row-is : row ≡ drop (x * rowWords n) grid) (union : out′ ≡ rowOf (rowWords n) (λ q. inRow out q || inRow row q) ++ drop (rowWords n) out) where
-  added : (g : ℕ) → g < n → inRow out′ g ≡ inRow out g || relationOf n grid x g
-  added g h =
-      ap (λ (l : List ℕ). inRow l g) union ∙ inRow-written (rowWords n) _ (drop (rowWords n) out) g (omega arith)
-      ∙ ap (λ (b : Bool). inRow out g || b) (ap (λ (l : List ℕ). inRow l g) row-is ∙ inRow-drop (rowWords n) grid x g)
+-- the block of y is in `out`, if y is in S
+abbrev Added : ℕ → Rel → Set → List ℕ → ℕ → Type 0
+Added n P S out y = S y ≡ true → (g : ℕ) → g < n → P y g ≡ true → inRow out g ≡ true
 
-  or-left : (a b : Bool) → a ≡ true → a || b ≡ true
-  or-left a b e = ap (λ (z : Bool). z || b) e
+-- `out` has the blocks of the members of S that are not left, and no other state
+record Gathered (n : ℕ) (P : Rel) (S : Set) (out left : List ℕ) (x : ℕ) : Type 0 where
+  pub out-long : length out ≡ 4
+  pub left-long : length left ≡ 4
+  pub swept : Swept n (Added n P S out) (inRow left) x
+  pub within : (y : ℕ) → y < n → inRow left y ≡ true → S y ≡ true
+  pub member : x < n → inRow left x ≡ true
+  pub met : (g : ℕ) → g < n → inRow out g ≡ true → anyBelow n (λ y. P g y && S y) ≡ true
 
-  or-right : (a b : Bool) → b ≡ true → a || b ≡ true
-  or-right true b e = refl
-  or-right false b e = e
+module _ (n : ℕ) (grid : List ℕ) (S : Set) (small : n ≤ 256) (classes : Equivalence n (relationOf n grid)) where
+  abbrev P : Rel
+  P = relationOf n grid
 
-  covers-next : Covers n (relationOf n grid) x S (inRow out) → Next S 256 (x + 1) x′ → Covers n (relationOf n grid) x′ S (inRow out′)
-  covers-next old next y g hy hg l s p =
-      added g hg
-      ∙ ⊎-elim (λ (h : y < x). or-left _ _ (old y g hy hg h s p))
-      (λ (h : x ≤ y). ⊎-elim
-      (λ (e : x ≡ y). or-right (inRow out g) _ (ap (λ (z : ℕ). relationOf n grid z g) e ∙ p))
-      (λ (h : x < y). absurd (true≢false (sym s ∙ next .none y (omega arith) l)))
-      (eq-or-lt-of-le h))
-      (lt-or-ge y x)
+  gather-first : {left : List ℕ} {x : ℕ} → left ≡ rowOf 4 S ++ drop 4 (replicate {A = ℕ} 4 0) → Next (inRow left) 256 0 x → Gathered n P S (replicate {A = ℕ} 4 0) left x
+  gather-first {left} {x} copied next = record {
+    out-long = refl;
+    left-long = ap length copied ∙ length-written 4 S (replicate {A = ℕ} 4 0) (omega arith);
+    swept = sweep-first n (Added n P S (replicate {A = ℕ} 4 0)) (inRow left) (λ y h e s. absurd (clash s (sym (at y h) ∙ e))) next;
+    within = λ y h e. sym (at y h) ∙ e;
+    member = λ h. next .member (omega (arith, h, small));
+    met = λ g h e. absurd (clash e (inRow-zeros 4 g));
+  }
+    where
+      at : (y : ℕ) → y < n → inRow left y ≡ S y
+      at y h = ap (λ (l : List ℕ). inRow l y) copied ∙ inRow-written 4 S (drop 4 (replicate {A = ℕ} 4 0)) y (omega (arith, small, h))
 
-  long-next : length out′ ≡ 4
-  long-next =
-      let union-long = ap length union ∙ length-append (rowOf (rowWords n) (λ q. inRow out q || inRow row q)) (drop (rowWords n) out) in
-      omega (arith, union-long, length-listBelow (rowWords n) (wordAt (λ q. inRow out q || inRow row q)), length-drop (rowWords n) out, long, small)
+  gather-next : {out left row out′ left′ : List ℕ} {x x′ : ℕ} → x < n → row ≡ drop (x * rowWords n) grid
+      → out′ ≡ rowOf (rowWords n) (λ q. inRow out q || inRow row q) ++ drop (rowWords n) out
+      → left′ ≡ rowOf (rowWords n) (λ q. inRow left q && not (inRow row q)) ++ drop (rowWords n) left
+      → Next (inRow left′) 256 (x + 1) x′ → Gathered n P S out left x → Gathered n P S out′ left′ x′
+  gather-next {out} {left} {row} {out′} {left′} {x} {x′} hx row-is union minus next g = record {
+    out-long = ap length union ∙ length-written (rowWords n) _ out (omega (arith, small, g .out-long)) ∙ g .out-long;
+    left-long = ap length minus ∙ length-written (rowWords n) _ left (omega (arith, small, g .left-long)) ∙ g .left-long;
+    swept = sweep-next n P (Added n P S out) (Added n P S out′) (inRow left) (inRow left′) (classes .loop x hx) less
+        (λ y hy old s k hk p. more k hk ∙ ap (λ (b : Bool). b || P x k) (old s k hk p))
+        (λ y hy e s k hk p. more k hk ∙ ap (λ (b : Bool). inRow out k || b) (classes .trans x y k hx hy hk e p) ∙ or-true (inRow out k)) (g .swept) next;
+    within = λ y hy e. g .within y hy (and-fst (inRow left y) (not (P x y)) (sym (less y hy) ∙ e));
+    member = λ h. next .member (omega (arith, h, small));
+    met = λ k hk e. ⊎-elim (λ (o : inRow out k ≡ true). g .met k hk o)
+        (λ (o : inRow out k ≡ false).
+        let p : P x k ≡ true = sym (more k hk ∙ ap (λ (b : Bool). b || P x k) o) ∙ e in
+        sym (any-yes n (λ y. P k y && S y) x hx (ap₂ _&&_ (classes .sym x k hx hk p) (g .within x hx (g .member hx))))) (either (inRow out k));
+  }
+    where
+      less : (y : ℕ) → y < n → inRow left′ y ≡ inRow left y && not (P x y)
+      less = zipped-row n x grid (λ a b. a && not b) left row-is minus
+
+      more : (y : ℕ) → y < n → inRow out′ y ≡ inRow out y || P x y
+      more = zipped-row n x grid _||_ out row-is union
+
+  gather-end : {out left : List ℕ} {x : ℕ} → n ≤ x → Gathered n P S out left x → Meets n P S (inRow out)
+  gather-end {out} {left} {x} end g k hk = bool-iff (g .met k hk) (λ e.
+      let some = any-some n (λ y. P k y && S y) e in
+      let y = some .0 in
+      sweep-end n (Added n P S out) (inRow left) x end (g .swept) y (some .1) (and-snd (P k y) (S y) (some .2)) k hk (classes .sym k y hk (some .1) (and-fst (P k y) (S y) (some .2))))
 
 abbrev Inv-loop : tie.InvT-loop
-Inv-loop grid n set w out₀ x₀ out x = (length out ≡ 4) × Covers n (relationOf n grid) x (inRow set) (inRow out)
+Inv-loop blocks n set w out₀ left₀ x₀ out left x = Gathered n (relationOf n blocks) (inRow set) out left x
 
 abbrev μ-loop : tie.MeasureT-loop
-μ-loop grid n set w out₀ x₀ out x = n - x
+μ-loop blocks n set w out₀ left₀ x₀ out left x = n - x
 
 add-w : tie.Need-add-w Inv-loop μ-loop
 add-w c = search needs
+
+slice-aggregate-row-copy : tie.Need-slice-aggregate-row-copy Inv-loop μ-loop
+slice-aggregate-row-copy c = search needs
+
+row-copy-requires : tie.Need-row-copy-requires Inv-loop μ-loop
+row-copy-requires c κs = search needs
+
+slice-aggregate-next-state : tie.Need-slice-aggregate-next-state Inv-loop μ-loop
+slice-aggregate-next-state c = search needs
 
 next-state-requires : tie.Need-next-state-requires Inv-loop μ-loop
 next-state-requires c κs = search needs
 
 loop-holds : tie.Need-loop-holds Inv-loop μ-loop
-loop-holds c = (search needs, λ y g hy hg l s p. absurd (true≢false (sym s ∙ c .next-state .ensures .none y (omega arith) l)))
-
-slice-aggregate-row-union : tie.Need-slice-aggregate-row-union Inv-loop μ-loop
-slice-aggregate-row-union c = search needs
+loop-holds c =
+    let start = c .before .before .before .before .before .before .before in
+    let a = start .args in
+    gather-first (a .n) (now (a .blocks)) (inRow (now (a .set))) (start .pre .0) (start .pre .2) (c .before .before .before .row-copy .ensures) (c .next-state .ensures)
 
 row-at-requires : tie.Need-row-at-requires Inv-loop μ-loop
 row-at-requires c κs = search needs
 
+slice-aggregate-row-union : tie.Need-slice-aggregate-row-union Inv-loop μ-loop
+slice-aggregate-row-union c = search needs
+
 row-union-requires : tie.Need-row-union-requires Inv-loop μ-loop
 row-union-requires c κs =
-    let start = c .before .before .before .before .before .before .before in
-    let n = start .args .n in
-    (search needs, subst⁻¹ (λ (l : List ℕ). rowWords n ≤ length l) (c .row-at .ensures) (row-long n (now (start .args .grid)) (c .before .before .loop-test .taken) (start .pre .1 .long)))
+    let start = c .before .before .before .before .before .before .before .before .before .before .before in
+    (search needs, row-words (start .args .n) (now (start .args .blocks)) (c .before .row-at .ensures) (c .before .before .loop-test .taken) (start .pre .1))
+
+slice-aggregate-row-minus : tie.Need-slice-aggregate-row-minus Inv-loop μ-loop
+slice-aggregate-row-minus c = search needs
+
+row-minus-requires : tie.Need-row-minus-requires Inv-loop μ-loop
+row-minus-requires c κs =
+    let start = c .before .before .before .before .before .before .before .before .before .before .before .before .before .before in
+    (search needs, row-words (start .args .n) (now (start .args .blocks)) (c .before .before .before .before .row-at .ensures) (c .before .before .before .before .before .loop-test .taken) (start .pre .1))
+
+slice-aggregate-next-state-2 : tie.Need-slice-aggregate-next-state-2 Inv-loop μ-loop
+slice-aggregate-next-state-2 c = search needs
 
 add-next-state : tie.Need-add-next-state Inv-loop μ-loop
 add-next-state c = search needs
@@ -85,15 +138,16 @@ loop-less c = search needs
 
 loop-again : tie.Need-loop-again Inv-loop μ-loop
 loop-again c =
-    let at = c .before .before .before .before .before .before in
-    let start = at .before .before .before .before in
+    let at = c .before .before .before .before .before .before .before .before .before .before in
+    let start = at .before .before .before .before .before .before .before .before in
     let a = start .args in
-    let covers = covers-next (a .n) (now (a .grid)) (inRow (now (a .set))) (at .loop .out) _ _ (at .loop .x) _ (start .pre .0) (at .loop .inv .0) (c .before .before .before .row-at .ensures) (c .before .before .row-union .ensures) in
-    let long = long-next (a .n) (now (a .grid)) (inRow (now (a .set))) (at .loop .out) _ _ (at .loop .x) 0 (start .pre .0) (at .loop .inv .0) (c .before .before .before .row-at .ensures) (c .before .before .row-union .ensures) in
-    (long, covers (at .loop .inv .1) (c .next-state2 .ensures))
+    gather-next (a .n) (now (a .blocks)) (inRow (now (a .set))) (start .pre .0) (start .pre .2) (c .before .before .before .before .before .before .before .before .before .loop-test .taken) (c .before .before .before .before .before .before .before .before .row-at .ensures)
+    (c .before .before .before .before .before .before .row-union .ensures) (c .before .before .before .row-minus .ensures) (c .next-state2 .ensures) (at .loop .inv)
 
 returns : tie.Need-returns Inv-loop μ-loop
-returns c = λ x g hx hg l s p. c .before .loop .inv .1 x g hx hg (omega (arith, c .loop-test .left, hx)) s p
+returns c =
+    let start = c .before .before .before .before .before .before .before .before .before in
+    gather-end (start .args .n) (now (start .args .blocks)) (inRow (now (start .args .set))) (start .pre .0) (start .pre .2) (c .loop-test .left) (c .before .loop .inv)
 
 pub meeting-rows-spec : {M : Type 1} → statement M
 meeting-rows-spec =
@@ -102,11 +156,17 @@ meeting-rows-spec =
     Inv-loop
     μ-loop
     add-w
+    slice-aggregate-row-copy
+    row-copy-requires
+    slice-aggregate-next-state
     next-state-requires
     loop-holds
-    slice-aggregate-row-union
     row-at-requires
+    slice-aggregate-row-union
     row-union-requires
+    slice-aggregate-row-minus
+    row-minus-requires
+    slice-aggregate-next-state-2
     add-next-state
     next-state-requires-2
     loop-less

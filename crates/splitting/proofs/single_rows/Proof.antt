@@ -2,20 +2,25 @@ use mathlib.Core.Path.{_≡_, refl, sym, ap, _∙_, subst⁻¹}
 use mathlib.Core.List.{List}
 use mathlib.Core.Logic.{⊎-elim}
 use mathlib.Core.Bool.{Bool, true, false, _||_, true≢false}
-use Prim.Native.Nat.{ℕ, _*_, _≤_, _<_, _-_}
+use Prim.Native.Nat.{ℕ, _≤_, _<_, _-_}
 use native.Mathlib.Omega.{arith}
 use lib.Dec.{eqb}
 use lib.ListN.{length}
 use borrow.Author.Tests.{eqb-true}
 use denote.Ref.{now}
 use Rattle.lts.specs.System.{Rel}
-use Rattle.relation.specs.Matrix.{inRow, rowOf, wordAt, relationOf}
+use Rattle.relation.specs.Matrix.{inRow, rowOf, rowWords, wordAt, relationOf}
 use Rattle.relation.proofs.Bounded.{length-listBelow}
-use Rattle.relation.proofs.Rows.{inRow-of, inRow-zeros}
+use Rattle.relation.proofs.Rows.{inRow-of, inRow-zeros, length-written}
 use Rattle.splitting.specs.Split.{Singles}
+use Rattle.splitting.proofs.Rows.{row-words}
 use borrow.Author.Needs.{needs}
 use Rattle.splitting.proofs.single_rows.Statement.{statement}
 use Rattle.splitting.proofs.single_rows.Tie as tie
+
+-- `out` has states that are alone
+abbrev Alone : ℕ → List ℕ → List ℕ → Type 0
+Alone n grid out = (length out ≡ 4) × Singles n (relationOf n grid) (inRow out)
 
 -- one member more, that is alone
 module _ (n : ℕ) (P : Rel) (out out′ : List ℕ) (g : ℕ) (small : n ≤ 256) (long : length out ≡ 4)
@@ -34,16 +39,28 @@ module _ (n : ℕ) (P : Rel) (out out′ : List ℕ) (g : ℕ) (small : n ≤ 25
       pick false e t = old x h hx hh t p
 
 abbrev Inv-loop : tie.InvT-loop
-Inv-loop blocks n rows out₀ g₀ out g = (length out ≡ 4) × Singles n (relationOf n blocks) (inRow out)
+Inv-loop blocks n rows w out₀ left₀ g₀ out left g = Alone n blocks out × (length left ≡ 4)
 
 abbrev μ-loop : tie.MeasureT-loop
-μ-loop blocks n rows out₀ g₀ out g = n - g
+μ-loop blocks n rows w out₀ left₀ g₀ out left g = n - g
+
+add-w : tie.Need-add-w Inv-loop μ-loop
+add-w c = search needs
+
+slice-aggregate-row-copy : tie.Need-slice-aggregate-row-copy Inv-loop μ-loop
+slice-aggregate-row-copy c = search needs
+
+row-copy-requires : tie.Need-row-copy-requires Inv-loop μ-loop
+row-copy-requires c κs = search needs
+
+slice-aggregate-next-state : tie.Need-slice-aggregate-next-state Inv-loop μ-loop
+slice-aggregate-next-state c = search needs
 
 next-state-requires : tie.Need-next-state-requires Inv-loop μ-loop
 next-state-requires c κs = search needs
 
 loop-holds : tie.Need-loop-holds Inv-loop μ-loop
-loop-holds c = (search needs, λ x h hx hh s p. absurd (true≢false (sym s ∙ inRow-zeros 4 x)))
+loop-holds c = ((search needs, λ x h hx hh s p. absurd (true≢false (sym s ∙ inRow-zeros 4 x))), search needs)
 
 is-single-requires : tie.Need-is-single-requires Inv-loop μ-loop
 is-single-requires c κs = search needs
@@ -53,6 +70,20 @@ slice-aggregate-insert c = search needs
 
 insert-requires : tie.Need-insert-requires Inv-loop μ-loop
 insert-requires c κs = search needs
+
+slice-aggregate-row-minus : tie.Need-slice-aggregate-row-minus Inv-loop μ-loop
+slice-aggregate-row-minus c = search needs
+
+row-at-requires : tie.Need-row-at-requires Inv-loop μ-loop
+row-at-requires c κs = search needs
+
+row-minus-requires : tie.Need-row-minus-requires Inv-loop μ-loop
+row-minus-requires c κs =
+    let start = c .before .before .before .before .before .before .before .before .before .before .before .before .before in
+    (search needs, row-words (start .args .n) (now (start .args .blocks)) (c .row-at .ensures) (c .before .before .before .before .loop-test .taken) (start .pre .1))
+
+slice-aggregate-next-state-2 : tie.Need-slice-aggregate-next-state-2 Inv-loop μ-loop
+slice-aggregate-next-state-2 c = search needs
 
 add-next-state : tie.Need-add-next-state Inv-loop μ-loop
 add-next-state c = search needs
@@ -65,19 +96,22 @@ loop-less c = search needs
 
 loop-again : tie.Need-loop-again Inv-loop μ-loop
 loop-again c =
-    let at = c .before .before .before .before .before in
-    let start = at .before .before .before .before in
+    let at = c .before .before .before .before .before .before .before .before .before in
+    let start = at .before .before .before .before .before .before .before .before in
     let a = start .args in
-    ⊎-elim
-    (λ w. (
-      long-next (a .n) (relationOf (a .n) (now (a .blocks))) (at .loop .out) _ (at .loop .g) (start .pre .0) (at .loop .inv .0) (w .4 ∙ w .2 .ensures),
-      singles-next (a .n) (relationOf (a .n) (now (a .blocks))) (at .loop .out) _ (at .loop .g) (start .pre .0) (at .loop .inv .0) (w .4 ∙ w .2 .ensures) (c .before .before .before .is-single .ensures (w .0 .taken)) (at .loop .inv .1),
-    ))
-    (λ w. subst⁻¹ (λ (l : List ℕ). (length l ≡ 4) × Singles (a .n) (relationOf (a .n) (now (a .blocks))) (inRow l)) (w .1) (at .loop .inv))
-    (c .before .before .if1 .came)
+    let inv = at .loop .inv in (
+      ⊎-elim
+          (λ w. (
+            long-next (a .n) (relationOf (a .n) (now (a .blocks))) (at .loop .out) _ (at .loop .g) (start .pre .0) (inv .0 .0) (w .4 ∙ w .2 .ensures),
+            singles-next (a .n) (relationOf (a .n) (now (a .blocks))) (at .loop .out) _ (at .loop .g) (start .pre .0) (inv .0 .0) (w .4 ∙ w .2 .ensures) (c .before .before .before .before .before .before .before .is-single .ensures (w .0 .taken)) (inv .0 .1),
+          ))
+          (λ w. subst⁻¹ (Alone (a .n) (now (a .blocks))) (w .1) (inv .0))
+          (c .before .before .before .before .before .before .if1 .came),
+      ap length (c .before .before .before .row-minus .ensures) ∙ length-written (rowWords (a .n)) _ (at .loop .left) (omega (arith, start .pre .0, inv .1)) ∙ inv .1,
+    )
 
 returns : tie.Need-returns Inv-loop μ-loop
-returns c = c .before .loop .inv .1
+returns c = c .before .loop .inv .0 .1
 
 pub single-rows-spec : {M : Type 1} → statement M
 single-rows-spec =
@@ -85,11 +119,19 @@ single-rows-spec =
     (tie.spec
     Inv-loop
     μ-loop
+    add-w
+    slice-aggregate-row-copy
+    row-copy-requires
+    slice-aggregate-next-state
     next-state-requires
     loop-holds
     is-single-requires
     slice-aggregate-insert
     insert-requires
+    slice-aggregate-row-minus
+    row-at-requires
+    row-minus-requires
+    slice-aggregate-next-state-2
     add-next-state
     next-state-requires-2
     loop-less

@@ -11,7 +11,6 @@ use Rattle.relation.specs.Matrix.{inRow, relationOf, matrixOf, rowsOf}
 use Rattle.relation.proofs.Matrices.{length-matrixOf, matrix-relation, formed-of}
 use Rattle.splitting.specs.Split.{splitRelated}
 use Rattle.splitting.proofs.Rows.{row-left, row-without, rows-next, rows-first, rows-end}
-use Rattle.splitting.proofs.Touched.{related-unsplit}
 use borrow.Author.Needs.{needs}
 use Rattle.splitting.proofs.split_related.Statement.{statement}
 use Rattle.splitting.proofs.split_related.Tie as tie
@@ -52,7 +51,7 @@ loop-holds c =
     let K = relationOf n (now (start .args .related)) in
     let P = relationOf n (now (start .args .blocks)) in
     matrix-relation _ _ (start .pre .0 .1) (λ j. c .before .before .before .slice-known .given j .fits)
-    ∙ rows-first n (splitRelated Rem K P) K (inRow (now (start .args .rows))) (λ t q ht hq e. related-unsplit Rem K P t q (start .pre .1 t q ht hq e)) _ _ (c .next-state .ensures)
+    ∙ rows-first n (splitRelated Rem K P) K (inRow (now (start .args .rows))) (start .pre .1) _ _ (c .next-state .ensures)
 
 contains-requires : tie.Need-contains-requires Inv-loop μ-loop
 contains-requires c κs = search needs
@@ -87,7 +86,7 @@ loop-again c =
     (λ w. w .5 ∙ w .2 .ensures ∙ row-without n (splitRelated Rem K P) K g (at .loop .related) hg (at .loop .inv) (λ q. P g q && Rem q) (λ q hq. outside Rem K P g q (sym (c .before .before .before .contains .ensures) ∙ not-true _ (w .0 .taken))))
     (λ w. w .1 ∙ row-left n (splitRelated Rem K P) K g (at .loop .related) hg (at .loop .inv) (λ q hq. inside Rem K P g q (sym (c .before .before .before .contains .ensures) ∙ not-false _ (w .0 .left))))
     (c .before .before .if1 .came)
-    ∙ rows-next n (splitRelated Rem K P) K (inRow (now (a .rows))) (λ t q ht hq e. related-unsplit Rem K P t q (start .pre .1 t q ht hq e)) _ _ _ (c .next-state2 .ensures)
+    ∙ rows-next n (splitRelated Rem K P) K (inRow (now (a .rows))) (start .pre .1) _ _ _ (c .next-state2 .ensures)
 
 same-length : tie.Need-same-length Inv-loop μ-loop
 same-length c = ap length (c .before .loop .inv) ∙ length-matrixOf _ _ ∙ sym (c .before .before .before .before .before .before .pre .0 .1 .long)
