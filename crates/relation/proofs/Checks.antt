@@ -92,12 +92,6 @@ pub rows-within : (n : ℕ) (g : List ℕ) (p q : ℕ) → Matrix n g → p < n
 rows-within n g p q ok hp = row-included n g p _ _ ok hp (λ i h. inRow-drop (rowWords n) g q i)
 
 -- a row of a matrix and a set, two rows of matrices
-pub rows-meet : (n : ℕ) (g : List ℕ) (p : ℕ) (S : ℕ → Bool) → Matrix n g → p < n
-    → anyBelow (rowWords n * 64) (λ q. inRow (drop (p * rowWords n) g) q && S q) ≡ anyBelow n (λ q. relationOf n g p q && S q)
-rows-meet n g p S ok hp =
-    any-cong (rowWords n * 64) _ _ (λ q l. ap (λ (b : Bool). b && S q) (inRow-drop (rowWords n) g p q))
-    ∙ any-shorter n (rowWords n * 64) (λ q. relationOf n g p q && S q) (omega arith) (λ q h l. ap (λ (b : Bool). b && S q) (ok .clear p q hp h l))
-
 pub rows-differ : (n : ℕ) (g h : List ℕ) (p r : ℕ) → Matrix n g → Matrix n h → p < n → r < n
     → anyBelow (rowWords n * 64) (λ q. xor (inRow (drop (p * rowWords n) g) q) (inRow (drop (r * rowWords n) h) q)) ≡ anyBelow n (λ q. xor (relationOf n g p q) (relationOf n h r q))
 unfolding xor
@@ -173,13 +167,6 @@ matrix-test n g e = record {
   clear = λ p q hp l u.
       not-true (relationOf n g p q) (sym (ap (λ (b : Bool). b || not (relationOf n g p q)) (le-ltb q n l)) ∙ all-at _ _ (all-at n (clearAt n g) (and-snd (eqb (length g) (n * rowWords n)) (allBelow n (clearAt n g)) e) p hp) q u);
 }
-
-pub test-matrix : (n : ℕ) (g : List ℕ) → Matrix n g → isMatrix n g ≡ true
-unfolding isMatrix
-test-matrix n g ok =
-    ap₂ _&&_ (eq-eqb _ _ (ok .long)) (all-of n (clearAt n g) (λ p hp. all-of _ _ (λ q u.
-    ⊎-elim (λ (l : q < n). ap (λ (b : Bool). b || not (relationOf n g p q)) (lt-ltb q n l))
-    (λ (l : n ≤ q). ap₂ (λ (a b : Bool). a || not b) (le-ltb q n l) (ok .clear p q hp l u)) (lt-or-ge q n))))
 
 pub wrong-length : (n : ℕ) (g : List ℕ) → (length g ≡ n * rowWords n → ⊥) → false ≡ isMatrix n g
 unfolding isMatrix

@@ -119,11 +119,6 @@ matrixOf-cong n R S same =
     matrix-ext n S (matrixOf n R) (length-matrixOf n R) (words-matrix n R) (λ p q hp hq. relation-states n R p q hp hq
     ∙ ⊎-elim (λ (h : q < n). ap (λ (b : Bool). ltb q n && b) (same p q hp h)) (λ (h : n ≤ q). states-out n (R p) q h ∙ sym (states-out n (S p) q h)) (lt-or-ge q n))
 
--- matrices with the same pairs are the same
-pub matrix-same : (n : ℕ) (g h : List ℕ) → Matrix n g → Words g → Matrix n h → Words h
-    → ((p q : ℕ) → p < n → q < n → relationOf n g p q ≡ relationOf n h p q) → g ≡ h
-matrix-same n g h okg wg okh wh same = matrix-relation n g okg wg ∙ matrixOf-cong n _ _ same ∙ sym (matrix-relation n h okh wh)
-
 -- ---- a part from a to the end that was lent, `&mut xs[a..]`, and came back as ys
 
 pub tail-part : (a : ℕ) (xs : List ℕ) → take (length xs - a) (drop a xs) ≡ drop a xs
@@ -308,10 +303,6 @@ set-here p S R q = ap (λ (b : Bool). cond b (S q) (R p q)) (eq-eqb p p refl)
 pub set-other : (p : ℕ) (S : ℕ → Bool) (R : ℕ → ℕ → Bool) (t q : ℕ) → (t ≡ p → ⊥) → setRow p S R t q ≡ R t q
 set-other p S R t q ne = ap (λ (b : Bool). cond b (S q) (R t q)) (ne-eqb t p ne)
 
--- row p of a matrix, as a set of states below n
-pub row-of : (n p : ℕ) (g : List ℕ) → Matrix n g → p < n → Row n (drop (p * rowWords n) g)
-row-of n p g ok hp = record { long = row-long n g hp (ok .long); clear = λ q h l. inRow-drop (rowWords n) g p q ∙ ok .clear p q hp h l }
-
 -- ---- a matrix that is changed row by row: after p rows its relation is `rowsOf p N R`
 
 pub relation-of : (n : ℕ) (R : ℕ → ℕ → Bool) {g : List ℕ} → g ≡ matrixOf n R → (p q : ℕ) → p < n → q < n → relationOf n g p q ≡ R p q
@@ -335,6 +326,3 @@ module _ (n : ℕ) (N R : ℕ → ℕ → Bool) where
       (λ (l : p < t). other t q ht hq (λ e. omega arith) ∙ ap (λ (b : Bool). cond b (N t q) (R t q)) (le-ltb t p h ∙ sym (le-ltb t (p + 1) (omega arith))))
       (eq-or-lt-of-le h))
       (lt-or-ge t p))
-
-  pub done-all : (p : ℕ) → p ≡ n → matrixOf n (rowsOf p N R) ≡ matrixOf n N
-  done-all p e = matrixOf-cong n _ _ (λ t q ht hq. ap (λ (b : Bool). cond b (N t q) (R t q)) (lt-ltb t p (omega arith)))

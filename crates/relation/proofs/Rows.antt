@@ -194,17 +194,6 @@ module _ (row : List ℕ) (q : ℕ) (h : q / 64 < length row) (words : (j : ℕ)
       swap false true = refl
       swap false false = refl
 
-  pub row-remove : set row (q / 64) (bitAnd word ((2 ^ 64 - 1) - one)) ≡ rowOf (length row) (λ x. not (eqb x q) && inRow row x)
-  row-remove = row-change row q (bitAnd word ((2 ^ 64 - 1) - one)) _ h words (λ x ne. ap (λ (b : Bool). not b && inRow row x) (ne-eqb x q ne)) (minus-bitwise .small _ _ (words (q / 64)) one-small) (λ i l.
-      minus-bitwise .bits word one i (words (q / 64)) one-small l
-      ∙ ap₂ (λ (a b : Bool). a && not b) (sym (inRow-at row (q / 64) i l)) (bit-one i l) ∙ swap (inRow row (q / 64 * 64 + i)) (eqb (q / 64 * 64 + i) q))
-    where
-      swap : (a b : Bool) → a && not b ≡ not b && a
-      swap true true = refl
-      swap true false = refl
-      swap false true = refl
-      swap false false = refl
-
 or-false : (b : Bool) → b || false ≡ b
 or-false true = refl
 or-false false = refl

@@ -8,7 +8,8 @@ use native.Mathlib.Omega.{arith}
 use lib.ListN.{length, drop}
 use Rattle.lts.specs.Bounded.{_⇒_}
 use Rattle.relation.specs.Matrix.{inRow, rowOf, rowWords, relationOf, Next}
-use Rattle.relation.specs.Check.{includedBelow, transitivePair, transitiveAt, Left}
+use Rattle.relation.specs.Check.{includedBelow, transitivePair, transitiveAt}
+use Rattle.relation.specs.Tested.{Left}
 use Rattle.relation.proofs.Bounded.{all-of, all-at, all-cong, and-fst, clash, either, lt-or-ge}
 use Rattle.relation.proofs.Rows.{inRow-written, length-written}
 use Rattle.relation.proofs.Matrices.{inRow-drop}

@@ -1,8 +1,7 @@
 -- Tests of matrices and of relations on the states below n (document 01, "Grids", and refusals 8 to 10).
-use mathlib.Core.Path.{_≡_}
-use mathlib.Core.Bool.{Bool, true, false, cond, not, _&&_, _||_}
+use mathlib.Core.Bool.{Bool, cond, not, _&&_, _||_}
 use mathlib.Core.List.{List}
-use Prim.Native.Nat.{ℕ, _*_, _<_, _≤_}
+use Prim.Native.Nat.{ℕ, _*_}
 use lib.Dec.{eqb, ltb}
 use lib.ListN.{length}
 use Rattle.lts.specs.Bounded.{_⇒_, allBelow}
@@ -12,7 +11,7 @@ use Rattle.lts.specs.declared.Refusal.{Refusal}
 use Rattle.lts.specs.declared.Refusal.the-variants.{Grid, NotReflexive, NotTransitive}
 use Rattle.relation.specs.declared.Checked.{Checked}
 use Rattle.relation.specs.declared.Checked.the-variants.{Preorder, Refused}
-use Rattle.relation.specs.Matrix.{inRow, rowWords, relationOf}
+use Rattle.relation.specs.Matrix.{rowWords, relationOf}
 
 -- every member of A below k is in B
 unfoldable pub includedBelow : ℕ → Set → Set → Bool
@@ -33,12 +32,6 @@ transitiveAt n R p = allBelow n (transitivePair n R p)
 
 unfoldable pub transitiveBelow : ℕ → Rel → Bool
 transitiveBelow n R = allBelow n (transitiveAt n R)
-
--- what is still to be tested of p: `left` has members of row p, and each state that it does not have passes
-pub record Left (n : ℕ) (R : Rel) (p : ℕ) (left : List ℕ) : Type 0 where
-  pub long : rowWords n ≤ length left
-  pub members : (q : ℕ) → q < n → inRow left q ≡ true → R p q ≡ true
-  pub passed : (q : ℕ) → q < n → inRow left q ≡ false → transitivePair n R p q ≡ true
 
 -- row p has no bit at q ≥ n
 abbrev pub clearAt : ℕ → List ℕ → ℕ → Bool

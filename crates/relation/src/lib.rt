@@ -8,7 +8,8 @@ ghost use lib.ListN.{length, drop};
 ghost use Rattle.lts.specs.Bounded.{_⇒_, anyBelow, countBelow, lowest};
 ghost use Rattle.lts.specs.Table.{markedSet};
 ghost use Rattle.relation.specs.Matrix.{digit, inRow, inMatrix, wordAt, rowOf, rowWords, statesBelow, matrixOf, relationOf, Matrix, Row, pairCount, setRow, withoutStates, Next};
-ghost use Rattle.relation.specs.Check.{includedBelow, withinBelow, reflexiveBelow, transitivePair, transitiveAt, transitiveBelow, clearAt, isMatrix, checkPreorder, terminationRow, Left};
+ghost use Rattle.relation.specs.Check.{includedBelow, withinBelow, reflexiveBelow, transitivePair, transitiveAt, transitiveBelow, clearAt, isMatrix, checkPreorder, terminationRow};
+ghost use Rattle.relation.specs.Tested.{Left};
 
 // Rows: a set of states in the first words of a slice.
 

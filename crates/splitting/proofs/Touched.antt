@@ -27,16 +27,6 @@ blocks-unsplit Rem P g q same = go (P g q) (Rem g) (Rem q) same
     go true true rq s = sym (s refl)
     go true false rq s = sym (ap not (s refl))
 
--- the states of Rem that go out of the rows of the blocks that hit
-module _ (n : ℕ) (Rem Hits rows : Set) (K P : Rel) (meets : Meets n P Hits rows) (g h : ℕ) (hg : g < n) where
-  pub prune-rows : K g h && not (rows g && Rem h) ≡ pruneRelated n Rem Hits K P g h
-  unfolding pruneRelated
-  prune-rows = ap (λ (b : Bool). K g h && not (b && Rem h)) (meets g hg)
-
-  -- a row whose block has no hit
-  pub unmet : rows g ≡ false → K g h ≡ pruneRelated n Rem Hits K P g h
-  unmet out = sym (ap (λ (b : Bool). K g h && not (b && Rem h)) out ∙ and-true (K g h)) ∙ prune-rows
-
 -- the split blocks are blocks again
 pub equivalence-split : (n : ℕ) (P : Rel) (Rem : Set) → Equivalence n P → Equivalence n (splitBlocks Rem P)
 unfolding splitBlocks

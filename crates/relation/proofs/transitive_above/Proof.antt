@@ -8,7 +8,8 @@ use lib.ListN.{length}
 use denote.Ref.{now}
 use borrow.Author.Tests.{not-true, not-false}
 use Rattle.relation.specs.Matrix.{inRow, rowWords, relationOf}
-use Rattle.relation.specs.Check.{transitiveAt, Left}
+use Rattle.relation.specs.Check.{transitiveAt}
+use Rattle.relation.specs.Tested.{Left}
 use Rattle.relation.proofs.Bounded.{all-not, clash}
 use Rattle.relation.proofs.Matrices.{row-long}
 use Rattle.relation.proofs.Transitivity.{left-next, left-less}
