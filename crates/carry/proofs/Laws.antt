@@ -6,7 +6,7 @@ use native.Mathlib.Nat.{pow-le-pow-right, pow-suc, not-suc-le-zero, le-of-suc-le
 use native.Mathlib.Numerals.{add-one, sub-one}
 use native.Mathlib.Omega.{arith}
 use lib.Dec.{lit<}
-use lib.ListN.{length, getD, take, drop, set, length-append, take-append-drop}
+use lib.ListN.{length, getD, take, drop, set, length-append, length-drop, take-append-drop}
 use lib.Seq.{append-snoc, take-suc, take-suc-set, take-length, take-at, take-add, drop-cons, drop-drop, drop-at, drop-length, set-at, length-take-le, slice, slice-empty, slice-cons}
 use Rattle.carry.specs.Carried.{numberOf, digits, numbersOf, bytesOf, loaded, stored}
 
@@ -70,6 +70,24 @@ numbers-snoc k (suc n) bs =
     let e : k + k * n ≡ k * suc n = rw mul-suc (omega arith) in
     rw (← e, ← drop-drop (k * n) k bs, ← numbers-snoc k n (drop k bs))
 
+-- n numbers are in the first k * n bytes
+pub numbers-front : (k n : ℕ) (bs : List ℕ) → k * n ≤ length bs → numbersOf k n (take (k * n) bs) ≡ numbersOf k n bs
+unfolding numbersOf
+numbers-front k zero bs h = refl
+numbers-front k (suc n) bs h =
+    let e : k * suc n ≡ k + k * n = mul-suc k n ∙ omega arith in
+    let l : length (take k bs) ≡ k = length-take-le k bs (omega arith) in
+    let front : take k (take (k * suc n) bs) ≡ take k bs = rw (e, take-add k (k * n) bs) (take-at (take k bs) (take (k * n) (drop k bs)) k l) in
+    let rest : drop k (take (k * suc n) bs) ≡ take (k * n) (drop k bs) = rw (e, take-add k (k * n) bs) (drop-at (take k bs) (take (k * n) (drop k bs)) k l) in
+    rw (front, rest, numbers-front k n (drop k bs) (omega (arith, length-drop k bs)))
+
+-- the first m of them
+pub numbers-take : (k m n : ℕ) (bs : List ℕ) → m ≤ n → take m (numbersOf k n bs) ≡ numbersOf k m bs
+unfolding numbersOf
+numbers-take k zero n bs h = refl
+numbers-take k (suc m) zero bs h = absurd (not-suc-le-zero h)
+numbers-take k (suc m) (suc n) bs h = ap (λ (l : List ℕ). numberOf (take k bs) ∷ l) (numbers-take k m n (drop k bs) (le-of-suc-le-suc h))
+
 module _ (k i : ℕ) (bs entry xs : List ℕ) (e : xs ≡ numbersOf k i bs ++ drop i entry) where
   pub numbers-more : (x : ℕ) → i < length entry → x ≡ numberOf (take k (drop (k * i) bs)) → set xs i x ≡ numbersOf k (i + 1) bs ++ drop (i + 1) entry
   numbers-more x h g =
@@ -100,6 +118,11 @@ module _ (k i : ℕ) (xs entry bs : List ℕ) (e : bs ≡ bytesOf k (take i xs) 
   pub bytes-done : i ≡ length xs → bs ≡ stored k xs entry
   unfolding stored
   bytes-done h = rw (h, take-length) at e
+
+-- what was read into the front of a buffer
+pub loaded-front : (k : ℕ) (bytes old numbers : List ℕ) → numbers ≡ loaded k bytes old → take (length bytes / k) numbers ≡ numbersOf k (length bytes / k) bytes
+unfolding loaded
+loaded-front k bytes old numbers e = rw e (take-at (numbersOf k (length bytes / k) bytes) (drop (length bytes / k) old) (length bytes / k) (numbers-length k (length bytes / k) bytes))
 
 -- A list that the bytes fill, or that fills the bytes, is the carried list alone.
 pub loaded-all : (k : ℕ) (bs xs : List ℕ) → length xs ≡ length bs / k → loaded k bs xs ≡ numbersOf k (length xs) bs

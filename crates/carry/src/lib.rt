@@ -1,9 +1,12 @@
 // Words and 16-bit lists carried as bytes, low byte first.
 ghost use mathlib.Core.Path.{_≡_};
 ghost use Prim.Native.Nat.{_+_, _*_, _/_, _^_, _<_, _≤_};
+ghost use mathlib.Core.Bool.{cond};
 ghost use mathlib.Core.List.{_++_};
+ghost use lib.Dec.{ltb};
 ghost use lib.ListN.{length, take, drop};
 ghost use Rattle.carry.specs.Carried.{numberOf, digits, loaded, stored};
+ghost use Rattle.carry.specs.Bytes.{LoadedFrom, LoadedSchedule};
 
 // The number that the k bytes from `at` on carry.
 pub fn read_number(bytes: &[u8], at: usize, k: usize) -> u64
@@ -85,4 +88,50 @@ pub fn store_numbers(numbers: &[u16], bytes: &mut [u8])
         write_number(bytes, 2 * i, 2, numbers[i] as u64);
         i += 1;
     }
+}
+
+// Reads the words of a grid from its bytes, into the front of words. Their number is 0 where the bytes are no grid's.
+pub fn load_grid(bytes: &[u8], words: &mut [u64; 1024]) -> usize
+    requires { ⌜ length (now words) ≡ 1024 ⌝ }
+    ensures { λ r. ⌜ LoadedFrom 8 1024 (now (bytes .entry)) r (now (words .exit)) ⌝ }
+{
+    let len = bytes.len();
+    if (len % 8 != 0) | (8192 < len) {
+        return 0;
+    }
+    load_words(bytes, words);
+    len / 8
+}
+
+// Reads one number a state from its bytes, into the front of numbers. Their number is 0 where the bytes are no such list's.
+pub fn load_states(bytes: &[u8], numbers: &mut [u16; 256]) -> usize
+    requires { ⌜ length (now numbers) ≡ 256 ⌝ }
+    ensures { λ r. ⌜ LoadedFrom 2 256 (now (bytes .entry)) r (now (numbers .exit)) ⌝ }
+{
+    let len = bytes.len();
+    if (len % 2 != 0) | (512 < len) {
+        return 0;
+    }
+    load_numbers(bytes, numbers);
+    len / 2
+}
+
+// How many bytes of a schedule are read: no run makes more than 256 * 255 steps.
+fn used(len: usize) -> usize
+    ensures { λ r. ⌜ r ≡ cond (ltb 130560 len) 130560 len ⌝ }
+{
+    if 130560 < len {
+        return 130560;
+    }
+    len
+}
+
+// Reads the front of a schedule from its bytes, as far as a run can use it.
+pub fn load_schedule(bytes: &[u8], numbers: &mut [u16; 65280]) -> usize
+    requires { ⌜ length (now numbers) ≡ 65280 ⌝ }
+    ensures { λ r. ⌜ LoadedSchedule 65280 (now (bytes .entry)) r (now (numbers .exit)) ⌝ }
+{
+    let len = used(bytes.len());
+    load_numbers(&bytes[..len], numbers);
+    len / 2
 }

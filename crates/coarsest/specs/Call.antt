@@ -1,71 +1,90 @@
--- The call coarsest: its answer and its two buffers (document 01, "Turns" and the table of refusals), and demand 3's clauses about it.
-use Prim.Native.Nat.{ℕ, _*_}
+-- The call coarsest: its reply and its two buffers (document 01, "Turns" and the table of refusals), and demand 3's clauses about them.
+use Prim.Native.Nat.{ℕ, _*_, _-_, _≤_, _<_}
 use mathlib.Core.Path.{_≡_}
-use mathlib.Core.Bool.{cond, _&&_}
-use mathlib.Core.List.{List}
-use lib.Dec.{eqb}
-use lib.ListN.{length}
-use Rattle.lts.specs.System.{Lts}
-use Rattle.lts.specs.Refinement.{Run, pairCount, blockCount, representatives, coarsest}
-use Rattle.lts.specs.Table.{tableLts}
-use Rattle.lts.specs.Demand.{IsCoarsest, Independent}
+use mathlib.Core.Bool.{not, _&&_}
+use mathlib.Core.List.{List, [], _∷_, _++_}
+use lib.Dec.{T, eqb}
+use lib.ListN.{length, getD}
+use Rattle.lts.specs.Bounded.{restrict}
+use Rattle.lts.specs.System.{Rel, Lts}
+use Rattle.lts.specs.Refinement.{block, pairCount, blockCount, representatives as representativesOf, coarsest}
+use Rattle.lts.specs.Demand.{IsCoarsest}
 use Rattle.lts.specs.declared.Refusal.{Refusal}
 use Rattle.lts.specs.declared.Refusal.the-variants.{Buffer}
-use Rattle.encoding.specs.declared.Header.{Header}
-use Rattle.encoding.specs.declared.Reading.{Reading}
-use Rattle.encoding.specs.declared.Reading.the-variants.{Readable, Refused as Unreadable}
-use Rattle.encoding.specs.Encoding.{readEncoding}
+use Rattle.lts.specs.Rule.{Rule, _otherwise_, Nothing, First, broken, checked, Reply, refused, given}
+use Rattle.encoding.specs.Records.{headerOf}
 use Rattle.encoding.specs.Denotation.{ltsOf}
-use Rattle.relation.specs.declared.Checked.{Checked}
-use Rattle.relation.specs.declared.Checked.the-variants.{Preorder, Refused as Unchecked}
-use Rattle.relation.specs.Matrix.{rowWords, relationOf, matrixOf}
-use Rattle.relation.specs.Check.{checkPreorder}
+use Rattle.relation.specs.Matrix.{rowWords, relationOf, matrixOf, Matrix}
+use Rattle.inputs.specs.Inputs.{inputRules}
 use Rattle.coarsest.specs.declared.Counts.{Counts}
 use Rattle.coarsest.specs.declared.Answer.{Answer}
 use Rattle.coarsest.specs.declared.Answer.the-variants.{Done, Refused}
 
--- the turns made, the kept pairs and the blocks of a run
-unfoldable pub countsOf : Lts → Run → Counts
-countsOf L r = record { steps = r .steps; pairs = pairCount L (r .final .related); blocks = blockCount L (r .final .related) }
+-- the reply of each answer: the turns made, the kept pairs and the blocks
+unfoldable pub coarsestReply : Answer → Reply
+coarsestReply (Done c) = given (c .steps ∷ c .pairs ∷ c .blocks ∷ [])
+coarsestReply (Refused r) = refused r
 
-pub record Outcome : Type 0 where
-  pub answer : Answer
+-- the reply, and the two lent buffers afterwards
+pub record CoarsestOutcome : Type 0 where
+  pub reply : Reply
   pub grid : List ℕ
-  pub names : List ℕ
+  pub representatives : List ℕ
 
--- the run of the refinement rule on the encoding's system, from the start's relation, with this schedule: the counts, K as a grid, and
+-- the sheet first (1 to 6), then the start (8 to 10), then the two buffers' lengths (15)
+unfoldable pub coarsestRules : List ℕ → List ℕ → List ℕ → List ℕ → List Rule
+coarsestRules s start grid representatives =
+    let n = headerOf s .states in
+    inputRules s start ++ (eqb (length grid) (n * rowWords n) && eqb (length representatives) n) otherwise Buffer ∷ []
+
+-- the run of the refinement rule on a system, from a start, with a schedule: the turns, the kept pairs and the blocks; K as a grid; and
 -- each state's block name
-unfoldable pub refined : List ℕ → ℕ → List ℕ → List ℕ → Outcome
-refined s n start schedule =
-    let L = ltsOf s in
-    let r = coarsest L (relationOf n start) schedule in
-    record { answer = Done (countsOf L r); grid = matrixOf n (r .final .related); names = representatives L (r .final .related) }
+unfoldable pub refined : Lts → Rel → List ℕ → CoarsestOutcome
+refined L start schedule =
+    let r = coarsest L start schedule in
+    let K = r .final .related in
+    record { reply = given (r .steps ∷ pairCount L K ∷ blockCount L K ∷ []); grid = matrixOf (L .states) K; representatives = representativesOf L K }
 
 -- a refusal leaves both buffers as they are
-abbrev pub refusal : Refusal → List ℕ → List ℕ → Outcome
-refusal r grid names = record { answer = Refused r; grid = grid; names = names }
+unfoldable pub coarsestCall : List ℕ → List ℕ → List ℕ → List ℕ → List ℕ → CoarsestOutcome
+coarsestCall s start schedule grid representatives =
+    checked (coarsestRules s start grid representatives)
+    (λ r. record { reply = refused r; grid = grid; representatives = representatives })
+    (refined (ltsOf s) (relationOf (headerOf s .states) start) schedule)
 
--- the encoding first (1 to 6), then the start (8 to 10), then the two buffers' lengths (15)
-unfoldable pub checkedOutcome : Checked → List ℕ → ℕ → List ℕ → List ℕ → List ℕ → List ℕ → Outcome
-checkedOutcome (Unchecked r) s n start schedule grid names = refusal r grid names
-checkedOutcome Preorder s n start schedule grid names =
-    cond (eqb (length grid) (n * rowWords n) && eqb (length names) n) (refined s n start schedule) (refusal Buffer grid names)
+-- Demand 3 about a reply, a relation K and block representatives that came back, of the system L from a start with a turn list.
+pub record Found (L : Lts) (start : Rel) (schedule : List ℕ) (reply : Reply) (K : Rel) (representatives : List ℕ) : Type 0 where
+  -- the turns are those of the written rule, and the pairs and blocks are those of K
+  pub replied : reply ≡ given (coarsest L start schedule .steps ∷ pairCount L K ∷ blockCount L K ∷ [])
+  pub bound : coarsest L start schedule .steps ≤ L .states * (L .states - 1)
+  pub relation : IsCoarsest L start K
+  -- each state's name is in its block, and no lower state is
+  pub long : length representatives ≡ L .states
+  pub member : (p : ℕ) → p < L .states → T (block K p (getD representatives p 0))
+  pub lowest : (p q : ℕ) → p < L .states → q < getD representatives p 0 → T (not (block K p q))
 
-unfoldable pub readOutcome : Reading → List ℕ → List ℕ → List ℕ → List ℕ → List ℕ → Outcome
-readOutcome (Unreadable r) s start schedule grid names = refusal r grid names
-readOutcome (Readable h) s start schedule grid names = checkedOutcome (checkPreorder (h .states) start) s (h .states) start schedule grid names
+-- the relation on the sheet's states that a grid holds
+abbrev pub gridRelation : List ℕ → List ℕ → Rel
+gridRelation s grid = restrict (headerOf s .states) (relationOf (headerOf s .states) grid)
 
-unfoldable pub coarsestCall : List ℕ → List ℕ → List ℕ → List ℕ → List ℕ → Outcome
-coarsestCall s start schedule grid names = readOutcome (readEncoding s) s start schedule grid names
+-- Every other turn list, and all buffers of these lengths, come to the same grid, representatives, pairs and blocks: only the turns are its own.
+abbrev pub SameForAll : List ℕ → List ℕ → List ℕ → List ℕ → Type 0
+SameForAll s start grid representatives =
+    let L = ltsOf s in
+    let K = gridRelation s grid in
+    (other grid′ representatives′ : List ℕ) → length grid′ ≡ length grid → length representatives′ ≡ length representatives
+    → coarsestCall s start other grid′ representatives′ ≡ record {
+      reply = given (coarsest L (relationOf (headerOf s .states) start) other .steps ∷ pairCount L K ∷ blockCount L K ∷ []);
+      grid = grid;
+      representatives = representatives;
+    }
 
--- Demand 3 about coarsest: for every readable encoding, every start and every schedule, what is written is the coarsest simulation inside
--- the start, the same for every schedule, after at most n * (n - 1) steps.
-pub record Promised (s start schedule : List ℕ) : Type 0 where
-  pub relation : (h : Header) → readEncoding s ≡ Readable h → checkPreorder (h .states) start ≡ Preorder
-      → IsCoarsest (ltsOf s) (relationOf (h .states) start) (coarsest (ltsOf s) (relationOf (h .states) start) schedule .final .related)
-  pub independent : (h : Header) → readEncoding s ≡ Readable h → checkPreorder (h .states) start ≡ Preorder
-      → Independent (ltsOf s) (relationOf (h .states) start) schedule (coarsest (ltsOf s) (relationOf (h .states) start) schedule)
-
--- the run on a table, for the crate's own functions
-abbrev pub tableRun : ℕ → ℕ → ℕ → List ℕ → List ℕ → List ℕ → List ℕ → List ℕ → Run
-tableRun n m k sources actions targets start schedule = coarsest (tableLts n m k sources actions targets) (relationOf n start) schedule
+-- What is promised of the reply and of the buffers, which were grid₀ and representatives₀ and are grid and representatives.
+pub record CoarsestPromise (s start schedule grid₀ representatives₀ : List ℕ) (reply : Reply) (grid representatives : List ℕ) : Type 0 where
+  -- the refusal of the first broken rule, and both buffers as they were
+  pub refuses : (r : Refusal) → broken (coarsestRules s start grid₀ representatives₀) ≡ First r → (reply ≡ refused r) × (grid ≡ grid₀) × (representatives ≡ representatives₀)
+  -- otherwise the grid is the coarsest simulation inside the start, with its counts and representatives, for every turn list
+  pub matrix : broken (coarsestRules s start grid₀ representatives₀) ≡ Nothing → Matrix (headerOf s .states) grid
+  pub answers : broken (coarsestRules s start grid₀ representatives₀) ≡ Nothing
+      → Found (ltsOf s) (relationOf (headerOf s .states) start) schedule reply (gridRelation s grid) representatives
+  pub same : broken (coarsestRules s start grid₀ representatives₀) ≡ Nothing → SameForAll s start grid representatives

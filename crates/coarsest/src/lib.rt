@@ -2,15 +2,13 @@
 ghost use mathlib.Core.Path.{_≡_};
 ghost use Prim.Native.Nat.{_*_};
 ghost use lib.ListN.{length};
-ghost use Rattle.lts.specs.Refinement.{representatives};
 ghost use Rattle.lts.specs.Table.{tableLts, Table};
-ghost use Rattle.encoding.specs.Checked.{ReadableAs};
-ghost use Rattle.relation.specs.Matrix.{rowWords, relationOf, matrixOf};
-ghost use Rattle.relation.specs.Check.{checkPreorder};
-ghost use Rattle.relation.specs.declared.Checked.the-variants.{Preorder};
+ghost use Rattle.encoding.specs.Denotation.{ltsOf};
+ghost use Rattle.relation.specs.Matrix.{rowWords, relationOf};
+ghost use Rattle.inputs.specs.Inputs.{Ready};
 ghost use Rattle.refinement.specs.Engine.{Start};
 ghost use Rattle.coarsest.specs.declared.Answer.the-variants.{Done};
-ghost use Rattle.coarsest.specs.Call.{tableRun, countsOf, refined, checkedOutcome, coarsestCall, Promised};
+ghost use Rattle.coarsest.specs.Call.{coarsestReply, refined, coarsestCall, CoarsestPromise};
 
 // The steps made, the pairs kept and the blocks.
 pub struct Counts {
@@ -36,15 +34,15 @@ fn refine_in(
     start: &[u64],
     schedule: &[u16],
     related: &mut [u64],
-    names: &mut [u16],
+    representatives: &mut [u16],
     viewed: &mut [u64],
     blocks: &mut [u64],
 ) -> Counts
-    requires { ⌜ Table n m k (now sources) (now actions) (now targets) × Start n (now start) × (length (now names) ≡ n) ⌝ }
+    requires { ⌜ Table n m k (now sources) (now actions) (now targets) × Start n (now start) × (length (now representatives) ≡ n) ⌝ }
     requires { ⌜ (length (now related) ≡ n * rowWords n) × (length (now viewed) ≡ n * rowWords n) × (length (now blocks) ≡ n * rowWords n) ⌝ }
-    ensures { λ r. ⌜ r ≡ countsOf (tableLts n m k (now (sources .entry)) (now (actions .entry)) (now (targets .entry))) (tableRun n m k (now (sources .entry)) (now (actions .entry)) (now (targets .entry)) (now (start .entry)) (now (schedule .entry))) ⌝ }
-    ensures { λ _. ⌜ now (related .exit) ≡ matrixOf n (tableRun n m k (now (sources .entry)) (now (actions .entry)) (now (targets .entry)) (now (start .entry)) (now (schedule .entry)) .final .related) ⌝ }
-    ensures { λ _. ⌜ now (names .exit) ≡ representatives (tableLts n m k (now (sources .entry)) (now (actions .entry)) (now (targets .entry))) (tableRun n m k (now (sources .entry)) (now (actions .entry)) (now (targets .entry)) (now (start .entry)) (now (schedule .entry)) .final .related) ⌝ }
+    ensures { λ r. ⌜ refined (tableLts n m k (now (sources .entry)) (now (actions .entry)) (now (targets .entry)))
+        (relationOf n (now (start .entry))) (now (schedule .entry))
+        ≡ record { reply = coarsestReply (Done r); grid = now (related .exit); representatives = now (representatives .exit) } ⌝ }
 {
     let steps = refinement::refine_all(
         n,
@@ -59,7 +57,7 @@ fn refine_in(
         viewed,
         blocks,
     );
-    partition::write_names(blocks, n, names);
+    partition::write_names(blocks, n, representatives);
     Counts {
         steps: steps,
         pairs: relation::count_pairs(related, n),
@@ -78,14 +76,14 @@ fn refine_viewed(
     start: &[u64],
     schedule: &[u16],
     related: &mut [u64],
-    names: &mut [u16],
+    representatives: &mut [u16],
     viewed: &mut [u64],
 ) -> Counts
-    requires { ⌜ Table n m k (now sources) (now actions) (now targets) × Start n (now start) × (length (now names) ≡ n) ⌝ }
+    requires { ⌜ Table n m k (now sources) (now actions) (now targets) × Start n (now start) × (length (now representatives) ≡ n) ⌝ }
     requires { ⌜ (length (now related) ≡ n * rowWords n) × (length (now viewed) ≡ n * rowWords n) ⌝ }
-    ensures { λ r. ⌜ r ≡ countsOf (tableLts n m k (now (sources .entry)) (now (actions .entry)) (now (targets .entry))) (tableRun n m k (now (sources .entry)) (now (actions .entry)) (now (targets .entry)) (now (start .entry)) (now (schedule .entry))) ⌝ }
-    ensures { λ _. ⌜ now (related .exit) ≡ matrixOf n (tableRun n m k (now (sources .entry)) (now (actions .entry)) (now (targets .entry)) (now (start .entry)) (now (schedule .entry)) .final .related) ⌝ }
-    ensures { λ _. ⌜ now (names .exit) ≡ representatives (tableLts n m k (now (sources .entry)) (now (actions .entry)) (now (targets .entry))) (tableRun n m k (now (sources .entry)) (now (actions .entry)) (now (targets .entry)) (now (start .entry)) (now (schedule .entry)) .final .related) ⌝ }
+    ensures { λ r. ⌜ refined (tableLts n m k (now (sources .entry)) (now (actions .entry)) (now (targets .entry)))
+        (relationOf n (now (start .entry))) (now (schedule .entry))
+        ≡ record { reply = coarsestReply (Done r); grid = now (related .exit); representatives = now (representatives .exit) } ⌝ }
 {
     let mut blocks = [0u64; 1024];
     let w = (n + 63) / 64;
@@ -100,7 +98,7 @@ fn refine_viewed(
         start,
         schedule,
         related,
-        names,
+        representatives,
         viewed,
         &mut blocks[..size],
     )
@@ -117,12 +115,12 @@ pub fn refine_table(
     start: &[u64],
     schedule: &[u16],
     related: &mut [u64],
-    names: &mut [u16],
+    representatives: &mut [u16],
 ) -> Counts
-    requires { ⌜ Table n m k (now sources) (now actions) (now targets) × Start n (now start) × (length (now names) ≡ n) × (length (now related) ≡ n * rowWords n) ⌝ }
-    ensures { λ r. ⌜ r ≡ countsOf (tableLts n m k (now (sources .entry)) (now (actions .entry)) (now (targets .entry))) (tableRun n m k (now (sources .entry)) (now (actions .entry)) (now (targets .entry)) (now (start .entry)) (now (schedule .entry))) ⌝ }
-    ensures { λ _. ⌜ now (related .exit) ≡ matrixOf n (tableRun n m k (now (sources .entry)) (now (actions .entry)) (now (targets .entry)) (now (start .entry)) (now (schedule .entry)) .final .related) ⌝ }
-    ensures { λ _. ⌜ now (names .exit) ≡ representatives (tableLts n m k (now (sources .entry)) (now (actions .entry)) (now (targets .entry))) (tableRun n m k (now (sources .entry)) (now (actions .entry)) (now (targets .entry)) (now (start .entry)) (now (schedule .entry)) .final .related) ⌝ }
+    requires { ⌜ Table n m k (now sources) (now actions) (now targets) × Start n (now start) × (length (now representatives) ≡ n) × (length (now related) ≡ n * rowWords n) ⌝ }
+    ensures { λ r. ⌜ refined (tableLts n m k (now (sources .entry)) (now (actions .entry)) (now (targets .entry)))
+        (relationOf n (now (start .entry))) (now (schedule .entry))
+        ≡ record { reply = coarsestReply (Done r); grid = now (related .exit); representatives = now (representatives .exit) } ⌝ }
 {
     let mut viewed = [0u64; 1024];
     let w = (n + 63) / 64;
@@ -137,7 +135,7 @@ pub fn refine_table(
         start,
         schedule,
         related,
-        names,
+        representatives,
         &mut viewed[..size],
     )
 }
@@ -149,13 +147,12 @@ fn refine_encoding(
     start: &[u64],
     schedule: &[u16],
     grid: &mut [u64],
-    names: &mut [u16],
+    representatives: &mut [u16],
 ) -> Counts
-    requires { ⌜ ReadableAs (now s) h × (checkPreorder (h .states) (now start) ≡ Preorder) ⌝ }
-    requires { ⌜ (length (now grid) ≡ h .states * rowWords (h .states)) × (length (now names) ≡ h .states) ⌝ }
-    ensures { λ r. ⌜ Done r ≡ refined (now (s .entry)) (h .states) (now (start .entry)) (now (schedule .entry)) .answer ⌝ }
-    ensures { λ _. ⌜ now (grid .exit) ≡ refined (now (s .entry)) (h .states) (now (start .entry)) (now (schedule .entry)) .grid ⌝ }
-    ensures { λ _. ⌜ now (names .exit) ≡ refined (now (s .entry)) (h .states) (now (start .entry)) (now (schedule .entry)) .names ⌝ }
+    requires { ⌜ Ready (now s) h (now start) ⌝ }
+    requires { ⌜ (length (now grid) ≡ h .states * rowWords (h .states)) × (length (now representatives) ≡ h .states) ⌝ }
+    ensures { λ r. ⌜ refined (ltsOf (now (s .entry))) (relationOf (h .states) (now (start .entry))) (now (schedule .entry))
+        ≡ record { reply = coarsestReply (Done r); grid = now (grid .exit); representatives = now (representatives .exit) } ⌝ }
 {
     let mut marks = [0u8; 256];
     let mut offsets = [0u16; 257];
@@ -184,36 +181,8 @@ fn refine_encoding(
         start,
         schedule,
         grid,
-        names,
+        representatives,
     )
-}
-
-// Coarsest, once the encoding is read.
-fn refine_readable(
-    s: &[u8],
-    h: encoding::Header,
-    start: &[u64],
-    schedule: &[u16],
-    grid: &mut [u64],
-    names: &mut [u16],
-) -> Answer
-    requires { ⌜ ReadableAs (now s) h ⌝ }
-    ensures { λ r. ⌜ r ≡ checkedOutcome (checkPreorder (h .states) (now (start .entry))) (now (s .entry)) (h .states) (now (start .entry)) (now (schedule .entry)) (now (grid .entry)) (now (names .entry)) .answer ⌝ }
-    ensures { λ _. ⌜ now (grid .exit) ≡ checkedOutcome (checkPreorder (h .states) (now (start .entry))) (now (s .entry)) (h .states) (now (start .entry)) (now (schedule .entry)) (now (grid .entry)) (now (names .entry)) .grid ⌝ }
-    ensures { λ _. ⌜ now (names .exit) ≡ checkedOutcome (checkPreorder (h .states) (now (start .entry))) (now (s .entry)) (h .states) (now (start .entry)) (now (schedule .entry)) (now (grid .entry)) (now (names .entry)) .names ⌝ }
-{
-    let n = h.states;
-    let w = (n + 63) / 64;
-    let checked = relation::check_preorder(start, n);
-    match checked {
-        relation::Checked::Refused(r) => Answer::Refused(r),
-        relation::Checked::Preorder => {
-            if (grid.len() != n * w) | (names.len() != n) {
-                return Answer::Refused(lts::Refusal::Buffer);
-            }
-            Answer::Done(refine_encoding(s, h, start, schedule, grid, names))
-        }
-    }
 }
 
 // Coarsest: writes the coarsest simulation inside the start, and each state's representative.
@@ -222,16 +191,23 @@ pub fn coarsest(
     start: &[u64],
     schedule: &[u16],
     grid: &mut [u64],
-    names: &mut [u16],
+    representatives: &mut [u16],
 ) -> Answer
-    ensures { λ r. ⌜ r ≡ coarsestCall (now (s .entry)) (now (start .entry)) (now (schedule .entry)) (now (grid .entry)) (now (names .entry)) .answer ⌝ }
-    ensures { λ _. ⌜ now (grid .exit) ≡ coarsestCall (now (s .entry)) (now (start .entry)) (now (schedule .entry)) (now (grid .entry)) (now (names .entry)) .grid ⌝ }
-    ensures { λ _. ⌜ now (names .exit) ≡ coarsestCall (now (s .entry)) (now (start .entry)) (now (schedule .entry)) (now (grid .entry)) (now (names .entry)) .names ⌝ }
-    ensures { λ _. ⌜ Promised (now (s .entry)) (now (start .entry)) (now (schedule .entry)) ⌝ }
+    ensures { λ r. ⌜ coarsestCall (now (s .entry)) (now (start .entry)) (now (schedule .entry)) (now (grid .entry)) (now (representatives .entry))
+        ≡ record { reply = coarsestReply r; grid = now (grid .exit); representatives = now (representatives .exit) } ⌝ }
+    ensures { λ r. ⌜ CoarsestPromise (now (s .entry)) (now (start .entry)) (now (schedule .entry)) (now (grid .entry)) (now (representatives .entry))
+        (coarsestReply r) (now (grid .exit)) (now (representatives .exit)) ⌝ }
 {
-    let reading = encoding::read_encoding(s);
+    let reading = inputs::read_inputs(s, start);
     match reading {
         encoding::Reading::Refused(r) => Answer::Refused(r),
-        encoding::Reading::Readable(h) => refine_readable(s, h, start, schedule, grid, names),
+        encoding::Reading::Readable(h) => {
+            let n = h.states;
+            let w = (n + 63) / 64;
+            if (grid.len() != n * w) | (representatives.len() != n) {
+                return Answer::Refused(lts::Refusal::Buffer);
+            }
+            Answer::Done(refine_encoding(s, h, start, schedule, grid, representatives))
+        }
     }
 }

@@ -1,154 +1,82 @@
--- What compare answers by what its readings answer, and what its answers promise. Assumes nothing.
-use Prim.Native.Nat.{ℕ, _+_, _*_, _-_, _≤_, _<_}
-use native.Mathlib.Omega.{arith}
-use mathlib.Core.Path.{_≡_, refl, sym, subst, _∙_}
-use mathlib.Core.Bool.{Bool, true, false, cond, not, _&&_}
-use mathlib.Core.List.{List, []}
-use lib.Dec.{T, leb}
-use borrow.Author.Tests.{leb-true}
-use Rattle.lts.specs.System.{Rel, Lts, terminationPreorder}
+-- What compare answers, by what its readings answer.
+use Prim.Native.Nat.{ℕ, _+_, _≤_}
+use mathlib.Core.Path.{_≡_, refl, subst, _∙_}
+use mathlib.Core.Bool.{Bool, true, false, not, _&&_, and-eq-true-iff}
+use mathlib.Core.List.{List, [], _∷_, _++_, append-assoc}
+use lib.Dec.{leb}
+use borrow.Author.Tests.{leb-true, not-false}
 use Rattle.lts.specs.Union.{disjointUnion, comparison, simulated}
-use Rattle.lts.specs.Demand.{Demand3}
-use Rattle.lts.proofs.Comparison.{termination-tests}
-use Rattle.lts.proofs.Union.{union-formed}
-use Rattle.lts.proofs.Demand.{demand3}
 use Rattle.lts.specs.declared.Refusal.{Refusal}
 use Rattle.lts.specs.declared.Refusal.the-variants.{TooLarge}
+use Rattle.lts.specs.Rule.{Rule, _otherwise_, First, broken, checked, Reply, refused}
+use Rattle.lts.proofs.Rule.{stop, pass, done, first-part, second-checked, refuses, passes}
 use Rattle.encoding.specs.declared.Header.{Header}
-use Rattle.encoding.specs.declared.Reading.{Reading}
 use Rattle.encoding.specs.declared.Reading.the-variants.{Readable, Refused as Unreadable}
-use Rattle.encoding.specs.Encoding.{readEncoding}
+use Rattle.encoding.specs.Records.{headerOf}
+use Rattle.encoding.specs.Encoding.{sheetRules, readEncoding}
 use Rattle.encoding.specs.Denotation.{ltsOf}
-use Rattle.encoding.proofs.Laws.{denoted}
+use Rattle.encoding.proofs.Reader.{sheet-broken, sheet-kept}
 use Rattle.comparison.specs.declared.Compared.{Compared}
 use Rattle.comparison.specs.declared.Compared.the-variants.{Refused}
-use Rattle.comparison.specs.Call.{answer, fits, compareReadable, compareSecond, compareFirst, compareCall, Relates, Promised}
+use Rattle.comparison.specs.Join.{runReply, pairReply}
+use Rattle.comparison.specs.Call.{compareReply, fits, compareRules, compareCall, ComparePromise}
+use Rattle.comparison.proofs.Promise.{promised}
 
--- ---- the answers, by the cases of the code
+-- a refusal
+refusing : (rules : List Rule) (result : Reply) {r : Refusal} → broken rules ≡ First r → checked rules refused result ≡ compareReply (Refused r)
+unfolding compareReply
+refusing rules result e = refuses rules refused result e
+
+-- ## The joined flow's size, and the code's test of it
+module _ (h g : Header) where
+  abbrev small : Bool
+  small = leb (h .states + g .states) 256 && leb (h .transitions + g .transitions) 1024
+
+  pub too-large : (result : Reply) → not small ≡ true → checked (fits h g otherwise TooLarge ∷ []) refused result ≡ compareReply (Refused TooLarge)
+  unfolding fits
+  too-large result t = refusing _ result (stop (fits h g) TooLarge [] refl refl t)
+
+  pub fitting : {result r : Reply} → not small ≡ false → result ≡ r → checked (fits h g otherwise TooLarge ∷ []) refused result ≡ r
+  unfolding fits
+  fitting {result} t f = passes _ refused result (done (pass (fits h g) TooLarge [] refl refl t)) ∙ f
+
+  pub fits-room : not small ≡ false → (h .states + g .states ≤ 256) × (h .transitions + g .transitions ≤ 1024)
+  fits-room t = let e = simp and-eq-true-iff at (not-false small t) in (leb-true _ _ (e .0), leb-true _ _ (e .1))
+
+-- ## The second sheet
+module _ (second : List ℕ) (h : Header) (result : Reply) where
+  pub second-refused : {r : Refusal} → readEncoding second ≡ Unreadable r
+      → checked (sheetRules second ++ fits h (headerOf second) otherwise TooLarge ∷ []) refused result ≡ compareReply (Refused r)
+  second-refused e = refusing _ result (first-part _ _ (sheet-broken second e))
+
+  pub second-read : {g : Header} {r : Reply} → readEncoding second ≡ Readable g → checked (fits h g otherwise TooLarge ∷ []) refused result ≡ r
+      → checked (sheetRules second ++ fits h (headerOf second) otherwise TooLarge ∷ []) refused result ≡ r
+  second-read {r = r} e f =
+      let k = sheet-kept second e in
+      second-checked (sheetRules second) _ refused result (k .0)
+      ∙ subst (λ (x : Header). checked (fits h x otherwise TooLarge ∷ []) refused result ≡ r) (k .1) f
+
+-- ## The first sheet, and the whole call
+-- what `compare` says of its answer
+abbrev Meets : List ℕ → List ℕ → Compared → Type 0
+Meets first second r = (compareCall first second ≡ compareReply r) × ComparePromise first second (compareReply r)
 
 module _ (first second : List ℕ) where
-  pub first-refused : {r : Refusal} → readEncoding first ≡ Unreadable r → Refused r ≡ compareCall first second
-  unfolding compareCall compareFirst
-  first-refused e = rw e
+  pub first-refused : {r : Refusal} → readEncoding first ≡ Unreadable r → Meets first second (Refused r)
+  unfolding compareRules compareCall
+  first-refused e = let f = refusing (compareRules first second) _ (first-part _ _ (first-part _ _ (sheet-broken first e))) in (f, promised first second f)
 
-  pub first-read : {h : Header} {a : Compared} → readEncoding first ≡ Readable h → a ≡ compareSecond (readEncoding second) first h second → a ≡ compareCall first second
-  unfolding compareCall compareFirst
-  first-read e f = rw e f
+  pub first-read : {h : Header} (r : Compared) → readEncoding first ≡ Readable h
+      → checked (sheetRules second ++ fits h (headerOf second) otherwise TooLarge ∷ []) refused
+      (pairReply (disjointUnion (ltsOf first) (ltsOf second)) (h .states)) ≡ compareReply r
+      → Meets first second r
+  unfolding compareRules compareCall simulated comparison pairReply runReply ltsOf
+  first-read r e f = let g = sheets ∙ subst (λ (x : Header). rest x ≡ compareReply r) (sheet-kept first e .1) f in (g, promised first second g)
+    where
+      rest : Header → Reply
+      rest h =
+          checked (sheetRules second ++ fits h (headerOf second) otherwise TooLarge ∷ []) refused
+          (pairReply (disjointUnion (ltsOf first) (ltsOf second)) (h .states))
 
-  module _ (h : Header) where
-    pub second-refused : {r : Refusal} → readEncoding second ≡ Unreadable r → Refused r ≡ compareSecond (readEncoding second) first h second
-    unfolding compareSecond
-    second-refused e = rw e
-
-    pub second-read : {g : Header} {a : Compared} → readEncoding second ≡ Readable g → a ≡ compareReadable first h second g → a ≡ compareSecond (readEncoding second) first h second
-    unfolding compareSecond
-    second-read e f = rw e f
-
-    module _ (g : Header) where
-      pub too-large : fits h g ≡ false → Refused TooLarge ≡ compareReadable first h second g
-      unfolding compareReadable
-      too-large e = rw e
-
-      pub fitting : {a : Compared} → fits h g ≡ true → a ≡ answer (simulated (ltsOf first) (ltsOf second)) (comparison (ltsOf first) (ltsOf second) .steps)
-          → a ≡ compareReadable first h second g
-      unfolding compareReadable
-      fitting e f = rw e f
-
-pub fits-room : (h g : Header) → fits h g ≡ true → (h .states + g .states ≤ 256) × (h .transitions + g .transitions ≤ 1024)
-unfolding fits
-fits-room h g e = go (leb (h .states + g .states) 256) (leb (h .transitions + g .transitions) 1024) e (leb-true _ _) (leb-true _ _)
-  where
-    go : (a b : Bool) {P Q : Type 0} → a && b ≡ true → (a ≡ true → P) → (b ≡ true → Q) → P × Q
-    go true b e f g = (f refl, g e)
-    go false b e f g = let z : true ≡ false = sym e in (f (sym z), g (cc))
-
--- ---- what an answer says
-
-never-refused : (r : Refusal) (related : Bool) (steps : ℕ) → Refused r ≡ answer related steps → ⊥
-unfolding answer
-never-refused r true steps e = let z : _≡_ {A = ℕ} 0 1 = cc in omega arith
-never-refused r false steps e = let z : _≡_ {A = ℕ} 0 1 = cc in omega arith
-
-same-answer : (b c : Bool) (i j : ℕ) → answer b i ≡ answer c j → (b ≡ c) × (i ≡ j)
-unfolding answer
-same-answer true true i j e = (refl, cc)
-same-answer false false i j e = (refl, cc)
-same-answer true false i j e = (cc, cc)
-same-answer false true i j e = (cc, cc)
-
-record Answered (first second : List ℕ) (related : Bool) (steps : ℕ) : Type 0 where
-  pub one : Header
-  pub two : Header
-  pub reads-one : readEncoding first ≡ Readable one
-  pub reads-two : readEncoding second ≡ Readable two
-  pub room : fits one two ≡ true
-  pub related-is : simulated (ltsOf first) (ltsOf second) ≡ related
-  pub steps-is : comparison (ltsOf first) (ltsOf second) .steps ≡ steps
-
-answered : (first second : List ℕ) (related : Bool) (steps : ℕ) → compareCall first second ≡ answer related steps → Answered first second related steps
-unfolding compareCall compareFirst compareSecond compareReadable
-answered first second related steps f = by-first (readEncoding first) refl f
-  where
-    by-room : (h g : Header) → readEncoding first ≡ Readable h → readEncoding second ≡ Readable g → (b : Bool) → fits h g ≡ b
-        → cond b (answer (simulated (ltsOf first) (ltsOf second)) (comparison (ltsOf first) (ltsOf second) .steps)) (Refused TooLarge) ≡ answer related steps
-        → Answered first second related steps
-    by-room h g d e true r f =
-        let same = same-answer (simulated (ltsOf first) (ltsOf second)) related (comparison (ltsOf first) (ltsOf second) .steps) steps f in
-        record { one = h; two = g; reads-one = d; reads-two = e; room = r; related-is = same .0; steps-is = same .1 }
-    by-room h g d e false r f = absurd (never-refused TooLarge related steps f)
-
-    by-second : (h : Header) → readEncoding first ≡ Readable h → (b : Reading) → readEncoding second ≡ b → compareSecond b first h second ≡ answer related steps
-        → Answered first second related steps
-    by-second h d (Unreadable r) e f = absurd (never-refused r related steps f)
-    by-second h d (Readable g) e f = by-room h g d e (fits h g) refl f
-
-    by-first : (a : Reading) → readEncoding first ≡ a → compareFirst a first second ≡ answer related steps → Answered first second related steps
-    by-first (Unreadable r) d f = absurd (never-refused r related steps f)
-    by-first (Readable h) d f = by-second h d (readEncoding second) refl f
-
-module _ (first second : List ℕ) (related : Bool) (steps : ℕ) (is : Answered first second related steps) where
-  abbrev U : Lts
-  U = disjointUnion (ltsOf first) (ltsOf second)
-
-  -- demand 3 about the union
-  all : Demand3 U (terminationPreorder U) []
-  all =
-      let one = denoted first (is .one) (is .reads-one) in
-      let two = denoted second (is .two) (is .reads-two) in
-      let tests = termination-tests U in
-      demand3 U (union-formed (ltsOf first) (ltsOf second) (one .formed) (two .formed)) (terminationPreorder U) (tests .0) (tests .1) []
-
-  first-below : (0 < U .states) × (ltsOf first .states < U .states)
-  unfolding disjointUnion
-  first-below =
-      let one = denoted first (is .one) (is .reads-one) in
-      let two = denoted second (is .two) (is .reads-two) in
-      (omega (arith, one .states, one .bounds .state), omega (arith, two .states, two .bounds .state))
-
-  relates : related ≡ true → (S : Rel) × Relates (ltsOf first) (ltsOf second) S
-  unfolding simulated comparison
-  relates e = (
-    comparison (ltsOf first) (ltsOf second) .final .related,
-    record { simulation = all .relation .simulation; inside = all .relation .inside; initial = subst T (sym (is .related-is ∙ e)) tt },
-  )
-
-  none : related ≡ false → (S : Rel) → Relates (ltsOf first) (ltsOf second) S → ⊥
-  unfolding simulated comparison
-  none e S s =
-      all .relation .lacks 0 (ltsOf first .states) (first-below .0) (first-below .1) .0
-      (subst (λ (b : Bool). T (not b)) (sym (is .related-is ∙ e)) tt) S (s .simulation) (s .inside) (s .initial)
-
-  bounded : (U .states ≤ 256) × (steps ≤ U .states * (U .states - 1))
-  unfolding comparison disjointUnion
-  bounded =
-      let one = denoted first (is .one) (is .reads-one) in
-      let two = denoted second (is .two) (is .reads-two) in
-      (omega (arith, one .states, two .states, fits-room (is .one) (is .two) (is .room) .0), subst (λ (k : ℕ). k ≤ U .states * (U .states - 1)) (is .steps-is) (all .independent .bound))
-
-pub promised : (first second : List ℕ) (r : Compared) → r ≡ compareCall first second → Promised first second r
-unfolding answer
-promised first second r e = record {
-  yes = λ steps f. relates first second true steps (answered first second true steps (sym e ∙ f)) refl;
-  no = λ steps f. none first second false steps (answered first second false steps (sym e ∙ f)) refl;
-  bound = λ related steps f. bounded first second related steps (answered first second related steps (sym e ∙ f));
-}
+      sheets : compareCall first second ≡ rest (headerOf first)
+      sheets = rw append-assoc (second-checked (sheetRules first) (sheetRules second ++ fits (headerOf first) (headerOf second) otherwise TooLarge ∷ []) refused _ (sheet-kept first e .0))

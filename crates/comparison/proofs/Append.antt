@@ -1,4 +1,4 @@
--- A list with numbers appended from a place on. Assumes nothing.
+-- A list with numbers appended from a place on.
 use Prim.Native.Nat.{ℕ, _+_, _<_}
 use native.Mathlib.Omega.{arith}
 use mathlib.Core.Path.{_≡_, refl, ap, subst, _∙_}

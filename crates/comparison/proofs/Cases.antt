@@ -1,6 +1,8 @@
--- Compare computed from the definitions: yes, no, the end mark, and the order of the refusals.
+-- Compare computed from the definitions: yes, no, the end mark, and the order of the refusals; and replies that the promise refuses.
 use Prim.Native.Nat.{ℕ}
-use mathlib.Core.Path.{_≡_, refl}
+use native.Mathlib.Omega.{arith}
+use mathlib.Core.Path.{_≡_, refl, sym, ap, _∙_}
+use mathlib.Core.Logic.{⊎-elim}
 use mathlib.Core.Bool.{xor}
 use mathlib.Core.List.{List, [], _∷_}
 use Rattle.lts.specs.Bounded.{anyBelow, allBelow, sumBelow, countBelow, passing, concatBelow, listBelow, lowest, restrict}
@@ -8,26 +10,53 @@ use Rattle.lts.specs.System.{allStates, anyState, allActions, into, termination
 use Rattle.lts.specs.Refinement.{initial, block, representative, isRepresentative, pending, remove, split, prune, refine, eachAction, stepOf, chosen, step, run, coarsest}
 use Rattle.lts.specs.Union.{disjointUnion, comparison, simulated}
 use Rattle.lts.specs.declared.Refusal.the-variants.{Length, Chain}
+use Rattle.lts.specs.Rule.{Nothing, broken, checked, Reply, given, refused}
+use Rattle.encoding.proofs.Sheets.{F1, F2}
 use Rattle.encoding.specs.Records.{numberAt, headerOf, stateRecordAt, transitionRecordAt, stateRecord, transitionRecord}
-use Rattle.encoding.specs.Encoding.{inRange, stateFits, statesFit, transitionFits, transitionsFit, walk, chain, reached, member, distinct, chainsFit, successor, successorsFit, unless, readEncoding}
+use Rattle.encoding.specs.Encoding.{inRange, stateFits, statesFit, transitionFits, transitionsFit, walk, chain, reached, member, distinct, chainsFit, successor, successorsFit, headedRules, sheetRules}
 use Rattle.encoding.specs.Denotation.{any, ltsOf}
-use Rattle.comparison.specs.declared.Compared.the-variants.{Yes, No, Refused}
-use Rattle.comparison.specs.Call.{answer, fits, compareReadable, compareSecond, compareFirst, compareCall}
+use Rattle.comparison.specs.Call.{fits, compareRules, compareCall, ComparePromise}
+use Rattle.comparison.proofs.Promise.{promised}
 
--- one state: with no transition, with the end mark, with a transition to itself, and with one that names itself as next
-still : List ℕ
-still = 1 ∷ 0 ∷ 0 ∷ 0 ∷ 0 ∷ 0 ∷ 0 ∷ 0 ∷ 0 ∷ 0 ∷ []
-
-ended : List ℕ
+abbrev ended : List ℕ
 ended = 1 ∷ 0 ∷ 0 ∷ 0 ∷ 0 ∷ 0 ∷ 1 ∷ 0 ∷ 0 ∷ 0 ∷ []
 
-looped : List ℕ
-looped = 1 ∷ 0 ∷ 1 ∷ 0 ∷ 1 ∷ 0 ∷ 0 ∷ 0 ∷ 1 ∷ 0 ∷ 1 ∷ 0 ∷ 0 ∷ 0 ∷ 0 ∷ 0 ∷ []
+abbrev once : List ℕ
+once = 2 ∷ 0 ∷ 1 ∷ 0 ∷ 1 ∷ 0 ∷ 0 ∷ 0 ∷ 1 ∷ 0 ∷ 0 ∷ 0 ∷ 0 ∷ 0 ∷ 1 ∷ 0 ∷ 1 ∷ 0 ∷ 0 ∷ 0 ∷ []
 
-cyclic : List ℕ
+abbrev cyclic : List ℕ
 cyclic = 1 ∷ 0 ∷ 1 ∷ 0 ∷ 1 ∷ 0 ∷ 0 ∷ 0 ∷ 1 ∷ 0 ∷ 1 ∷ 0 ∷ 0 ∷ 0 ∷ 1 ∷ 0 ∷ []
 
-cases : (compareCall still looped ≡ Yes 1) × (compareCall looped still ≡ No 1) × (compareCall still ended ≡ Yes 1) × (compareCall ended looped ≡ No 2)
-    × (compareCall cyclic [] ≡ Refused Chain) × (compareCall [] cyclic ≡ Refused Length) × (compareCall still cyclic ≡ Refused Chain)
-unfolding xor still ended looped cyclic anyBelow allBelow sumBelow countBelow passing concatBelow listBelow lowest restrict allStates anyState allActions into terminationPreorder initial block representative isRepresentative pending remove split prune refine eachAction stepOf chosen step run coarsest disjointUnion comparison simulated numberAt headerOf stateRecordAt transitionRecordAt stateRecord transitionRecord inRange stateFits statesFit transitionFits transitionsFit walk chain reached member distinct chainsFit successor successorsFit unless readEncoding any ltsOf answer fits compareReadable compareSecond compareFirst compareCall
+-- the turns are those that are made for the pair of sheets; the first sheet's refusal comes before the second's
+cases : (compareCall F1 F1 ≡ given (1 ∷ 0 ∷ [])) × (compareCall ended F1 ≡ given (0 ∷ 1 ∷ []))
+    × (compareCall once F2 ≡ given (1 ∷ 2 ∷ [])) × (compareCall F2 once ≡ given (0 ∷ 2 ∷ []))
+    × (compareCall cyclic [] ≡ refused Chain) × (compareCall [] cyclic ≡ refused Length) × (compareCall F1 cyclic ≡ refused Chain)
+unfolding xor anyBelow allBelow sumBelow countBelow passing concatBelow listBelow lowest restrict allStates anyState allActions into terminationPreorder initial block representative isRepresentative pending remove split prune refine eachAction stepOf chosen step run coarsest disjointUnion comparison simulated broken checked numberAt headerOf stateRecordAt transitionRecordAt stateRecord transitionRecord inRange stateFits statesFit transitionFits transitionsFit walk chain reached member distinct chainsFit successor successorsFit headedRules sheetRules any ltsOf fits compareRules compareCall
 cases = (refl, refl, refl, refl, refl, refl, refl)
+
+-- of sheets that keep the rules, the promise allows one reply alone
+one-reply : (first second : List ℕ) {a b : Reply} → broken (compareRules first second) ≡ Nothing
+    → ComparePromise first second a → ComparePromise first second b → a .values ≡ b .values
+one-reply first second e p q = ap (λ (r : Reply). r .values)
+    (⊎-elim (λ x. ⊎-elim (λ y. x .0 ∙ sym (y .0)) (λ y. absurd (y .1 (x .1))) (q .answers e))
+    (λ x. ⊎-elim (λ y. absurd (x .1 (y .1))) (λ y. x .0 ∙ sym (y .0)) (q .answers e)) (p .answers e))
+
+-- so it refuses a constant yes, a constant no, and turns that are not made, on sheets where the answer is another
+kept : (broken (compareRules F2 once) ≡ Nothing) × (broken (compareRules once F2) ≡ Nothing)
+unfolding allBelow concatBelow broken numberAt headerOf stateRecordAt transitionRecordAt stateRecord transitionRecord inRange stateFits statesFit transitionFits transitionsFit walk chain reached member distinct chainsFit successor successorsFit headedRules sheetRules fits compareRules
+kept = (refl, refl)
+
+not-always-yes : (turns : ℕ) → ComparePromise F2 once (given (1 ∷ turns ∷ [])) → ⊥
+not-always-yes turns p =
+    let e = one-reply F2 once (kept .0) p (promised F2 once (cases .3)) in
+    let z : _≡_ {A = ℕ} 1 0 = cc in omega arith
+
+not-always-no : (turns : ℕ) → ComparePromise once F2 (given (0 ∷ turns ∷ [])) → ⊥
+not-always-no turns p =
+    let e = one-reply once F2 (kept .1) p (promised once F2 (cases .2)) in
+    let z : _≡_ {A = ℕ} 0 1 = cc in omega arith
+
+not-other-turns : ComparePromise F2 once (given (0 ∷ 3 ∷ [])) → ⊥
+not-other-turns p =
+    let e = one-reply F2 once (kept .0) p (promised F2 once (cases .3)) in
+    let z : _≡_ {A = ℕ} 3 2 = cc in omega arith

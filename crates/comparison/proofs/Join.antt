@@ -1,5 +1,4 @@
 -- Two tables one after the other, the second's states raised by the first's number of states: the table of the disjoint union.
--- Assumes nothing.
 use Prim.Native.Nat.{ℕ, _+_, _-_, _≤_, _<_, max}
 use native.Mathlib.Omega.{arith}
 use mathlib.Core.Path.{_≡_, sym, ap, ap₂, subst, _∙_, fun-ext}

@@ -1,55 +1,41 @@
--- What compare answers (document 01, "Hand play and comparison" and the table of refusals), and what the answer says.
+-- The call compare: its reply (document 01, "Hand play and comparison" and the table of refusals), and what is promised of it.
 use Prim.Native.Nat.{ℕ, _+_, _*_, _-_, _≤_}
 use mathlib.Core.Path.{_≡_}
 use mathlib.Core.Bool.{Bool, cond, _&&_}
-use mathlib.Core.List.{List, []}
+use mathlib.Core.List.{List, [], _∷_, _++_}
 use lib.Dec.{T, leb}
 use Rattle.lts.specs.System.{Rel, Lts, isSimulation, within, terminationPreorder}
-use Rattle.lts.specs.Refinement.{Run, coarsest}
 use Rattle.lts.specs.Union.{disjointUnion, comparison, simulated}
+use Rattle.lts.specs.declared.Refusal.{Refusal}
 use Rattle.lts.specs.declared.Refusal.the-variants.{TooLarge}
+use Rattle.lts.specs.Rule.{Rule, _otherwise_, Nothing, First, broken, checked, Reply, refused, given, Decides}
 use Rattle.encoding.specs.declared.Header.{Header}
-use Rattle.encoding.specs.declared.Reading.{Reading}
-use Rattle.encoding.specs.declared.Reading.the-variants.{Readable, Refused as Unreadable}
-use Rattle.encoding.specs.Encoding.{readEncoding}
+use Rattle.encoding.specs.Records.{headerOf}
+use Rattle.encoding.specs.Encoding.{sheetRules}
 use Rattle.encoding.specs.Denotation.{ltsOf}
 use Rattle.comparison.specs.declared.Compared.{Compared}
 use Rattle.comparison.specs.declared.Compared.the-variants.{Yes, No, Refused}
 
--- yes or no, with a number of steps
-unfoldable pub answer : Bool → ℕ → Compared
-answer related steps = cond related (Yes steps) (No steps)
-
--- the answer of a run: whether it keeps (0, q), and its turns
-unfoldable pub runAnswer : Run → ℕ → Compared
-runAnswer r q = answer (r .final .related 0 q) (r .steps)
-
--- that of a system's run from its termination preorder (end start), with an empty schedule
-unfoldable pub compareStates : Lts → ℕ → Compared
-compareStates U q = runAnswer (coarsest U (terminationPreorder U) []) q
+-- the reply of each answer: yes or no, and the turns
+unfoldable pub compareReply : Compared → Reply
+compareReply (Yes steps) = given (1 ∷ steps ∷ [])
+compareReply (No steps) = given (0 ∷ steps ∷ [])
+compareReply (Refused r) = refused r
 
 -- the joined flow has at most 256 states and 1,024 transitions
 unfoldable pub fits : Header → Header → Bool
 fits h g = leb (h .states + g .states) 256 && leb (h .transitions + g .transitions) 1024
 
--- with both encodings read: refusal 7, or yes exactly if state 0 of the first is kept with state 0 of the second, and the turns
-unfoldable pub compareReadable : List ℕ → Header → List ℕ → Header → Compared
-compareReadable first h second g =
+-- the first sheet (1 to 6), then the second, then the joined flow (7)
+unfoldable pub compareRules : List ℕ → List ℕ → List Rule
+compareRules first second = sheetRules first ++ sheetRules second ++ fits (headerOf first) (headerOf second) otherwise TooLarge ∷ []
+
+-- yes exactly if state 0 of the first is kept with state 0 of the second, and the turns
+unfoldable pub compareCall : List ℕ → List ℕ → Reply
+compareCall first second =
     let L = ltsOf first in
     let M = ltsOf second in
-    cond (fits h g) (answer (simulated L M) (comparison L M .steps)) (Refused TooLarge)
-
--- the first encoding through 6, then the second
-unfoldable pub compareSecond : Reading → List ℕ → Header → List ℕ → Compared
-compareSecond (Unreadable r) first h second = Refused r
-compareSecond (Readable g) first h second = compareReadable first h second g
-
-unfoldable pub compareFirst : Reading → List ℕ → List ℕ → Compared
-compareFirst (Unreadable r) first second = Refused r
-compareFirst (Readable h) first second = compareSecond (readEncoding second) first h second
-
-unfoldable pub compareCall : List ℕ → List ℕ → Compared
-compareCall first second = compareFirst (readEncoding first) first second
+    checked (compareRules first second) refused (given (cond (simulated L M) 1 0 ∷ comparison L M .steps ∷ []))
 
 -- S is a simulation of the joined flow inside its end start, and relates state 0 of L to state 0 of M
 pub record Relates (L M : Lts) (S : Rel) : Type 0 where
@@ -57,11 +43,12 @@ pub record Relates (L M : Lts) (S : Rel) : Type 0 where
   pub inside : T (within (disjointUnion L M) S (terminationPreorder (disjointUnion L M)))
   pub initial : T (S 0 (L .states))
 
--- What an answer r says: with yes there is such a simulation, with no there is none; and the turns are at most n * (n - 1), with n the
--- joined flow's states.
-pub record Promised (first second : List ℕ) (r : Compared) : Type 0 where
-  pub yes : (steps : ℕ) → r ≡ Yes steps → (S : Rel) × Relates (ltsOf first) (ltsOf second) S
-  pub no : (steps : ℕ) → r ≡ No steps → (S : Rel) → Relates (ltsOf first) (ltsOf second) S → ⊥
-  pub bound : (related : Bool) (steps : ℕ) → r ≡ answer related steps
-      → (disjointUnion (ltsOf first) (ltsOf second) .states ≤ 256)
-      × (steps ≤ disjointUnion (ltsOf first) (ltsOf second) .states * (disjointUnion (ltsOf first) (ltsOf second) .states - 1))
+-- What is promised of the reply.
+pub record ComparePromise (first second : List ℕ) (reply : Reply) : Type 0 where
+  -- the refusal of the first broken rule
+  pub refuses : (r : Refusal) → broken (compareRules first second) ≡ First r → reply ≡ refused r
+  -- otherwise yes exactly if there is such a simulation, with the turns of the joined flow's run, at most n * (n - 1) of its n states
+  pub answers : broken (compareRules first second) ≡ Nothing
+      → Decides reply ((S : Rel) × Relates (ltsOf first) (ltsOf second) S) (comparison (ltsOf first) (ltsOf second) .steps ∷ [])
+  pub bound : broken (compareRules first second) ≡ Nothing
+      → let n = disjointUnion (ltsOf first) (ltsOf second) .states in comparison (ltsOf first) (ltsOf second) .steps ≤ n * (n - 1)

@@ -1,9 +1,12 @@
--- What the functions that join two tables say of each other.
+-- What the functions that join two tables, and run the engine on the joined table, say of each other.
 use Prim.Native.Nat.{ℕ, _+_, _<_}
 use mathlib.Core.Path.{_≡_}
-use mathlib.Core.List.{List}
+use mathlib.Core.Bool.{cond}
+use mathlib.Core.List.{List, [], _∷_}
 use lib.ListN.{length, getD}
-use Rattle.lts.specs.System.{Lts}
+use Rattle.lts.specs.System.{Lts, terminationPreorder}
+use Rattle.lts.specs.Refinement.{Run, coarsest}
+use Rattle.lts.specs.Rule.{Reply, given}
 use Rattle.lts.specs.Table.{Table, tableLts, withTerminating, markedSet}
 use Rattle.lts.specs.Union.{disjointUnion}
 
@@ -29,3 +32,11 @@ pub record Held (n m k : ℕ) (marks sources actions targets : List ℕ) : Type 
 pub record Joined (L M : Lts) (n m k : ℕ) (marks sources actions targets : List ℕ) : Type 0 where
   pub table : Table n m k sources actions targets
   pub same : markedLts n m k marks sources actions targets ≡ disjointUnion L M
+
+-- the reply of a run: whether it keeps (0, q), and its steps
+unfoldable pub runReply : Run → ℕ → Reply
+runReply r q = given (cond (r .final .related 0 q) 1 0 ∷ r .steps ∷ [])
+
+-- that of a system's run from its termination preorder (end start), with an empty schedule
+unfoldable pub pairReply : Lts → ℕ → Reply
+pairReply U q = runReply (coarsest U (terminationPreorder U) []) q

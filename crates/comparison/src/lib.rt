@@ -1,19 +1,21 @@
 // Compare (document 01, "Hand play and comparison"): whether the second encoding's system simulates the first's, by the coarsest
 // simulation of their disjoint union.
 ghost use mathlib.Core.Path.{_≡_};
-ghost use mathlib.Core.List.{[]};
+ghost use mathlib.Core.Bool.{cond};
+ghost use mathlib.Core.List.{[], _∷_, _++_};
 ghost use Prim.Native.Nat.{ℕ, _+_, _*_, _<_, _≤_, max};
 ghost use lib.ListN.{length, getD};
-ghost use Rattle.lts.specs.Refinement.{coarsest};
-ghost use Rattle.lts.specs.Table.{Table, tableLts};
+ghost use Rattle.lts.specs.Table.{Table};
 ghost use Rattle.lts.specs.Union.{disjointUnion};
+ghost use Rattle.lts.specs.declared.Refusal.the-variants.{TooLarge};
+ghost use Rattle.lts.specs.Rule.{_otherwise_, checked, refused, given};
+ghost use Rattle.encoding.specs.Records.{headerOf};
 ghost use Rattle.encoding.specs.Checked.{ReadableAs};
-ghost use Rattle.encoding.specs.Encoding.{readEncoding};
+ghost use Rattle.encoding.specs.Encoding.{sheetRules};
 ghost use Rattle.encoding.specs.Denotation.{ltsOf};
-ghost use Rattle.relation.specs.Matrix.{rowWords, relationOf};
-ghost use Rattle.refinement.specs.Engine.{Start};
-ghost use Rattle.comparison.specs.Join.{Appended, markedLts, Held, Joined};
-ghost use Rattle.comparison.specs.Call.{answer, runAnswer, compareStates, compareReadable, compareSecond, compareCall, Promised};
+ghost use Rattle.relation.specs.Matrix.{rowWords};
+ghost use Rattle.comparison.specs.Join.{Appended, markedLts, Held, Joined, pairReply};
+ghost use Rattle.comparison.specs.Call.{compareReply, fits, compareCall, ComparePromise};
 
 // What compare answers: yes or no, with the steps made.
 pub enum Compared {
@@ -62,7 +64,9 @@ fn append_system(
 )
     requires { ⌜ ReadableAs (now s) h × Held n m k (now marks) (now sources) (now actions) (now targets) ⌝ }
     requires { ⌜ (n + h .states ≤ 256) × (k + h .transitions ≤ 1024) ⌝ }
-    ensures { λ _. ⌜ Joined (markedLts n m k (now (marks .entry)) (now (sources .entry)) (now (actions .entry)) (now (targets .entry))) (ltsOf (now (s .entry))) (n + h .states) (max m (h .actions)) (k + h .transitions) (now (marks .exit)) (now (sources .exit)) (now (actions .exit)) (now (targets .exit)) ⌝ }
+    ensures { λ _. ⌜ Joined (markedLts n m k (now (marks .entry)) (now (sources .entry)) (now (actions .entry)) (now (targets .entry)))
+        (ltsOf (now (s .entry))) (n + h .states) (max m (h .actions)) (k + h .transitions)
+        (now (marks .exit)) (now (sources .exit)) (now (actions .exit)) (now (targets .exit)) ⌝ }
 {
     let mut own_marks = [0u8; 256];
     let mut offsets = [0u16; 257];
@@ -98,7 +102,7 @@ fn larger(a: usize, b: usize) -> usize
 
 // Yes or no, with the steps.
 fn verdict(related: bool, steps: usize) -> Compared
-    ensures { λ r. ⌜ r ≡ answer related steps ⌝ }
+    ensures { λ r. ⌜ given (cond related 1 0 ∷ steps ∷ []) ≡ compareReply r ⌝ }
 {
     if related {
         return Compared::Yes(steps);
@@ -106,41 +110,9 @@ fn verdict(related: bool, steps: usize) -> Compared
     Compared::No(steps)
 }
 
-// Whether the run from a preorder keeps the pair (0, q), and its steps. K is the caller's.
-fn compare_from(
-    n: usize,
-    m: usize,
-    k: usize,
-    sources: &[u16; 1024],
-    actions: &[u8; 1024],
-    targets: &[u16; 1024],
-    start: &[u64],
-    q: usize,
-    related: &mut [u64],
-) -> Compared
-    requires { ⌜ Table n m k (now sources) (now actions) (now targets) × Start n (now start) × (q < n) × (length (now related) ≡ n * rowWords n) ⌝ }
-    ensures { λ r. ⌜ r ≡ runAnswer (coarsest (tableLts n m k (now (sources .entry)) (now (actions .entry)) (now (targets .entry))) (relationOf n (now (start .entry))) []) q ⌝ }
-{
-    let mut names = [0u16; 256];
-    let schedule: [u16; 0] = [];
-    let counts = coarsest::refine_table(
-        n,
-        m,
-        k,
-        sources,
-        actions,
-        targets,
-        start,
-        &schedule,
-        related,
-        &mut names[..n],
-    );
-    let w = (n + 63) / 64;
-    verdict(relation::has(related, w, 0, q), counts.steps)
-}
-
-// The same from the termination preorder of the marked states. Its matrix is the caller's too.
-fn compare_marked(
+// Whether the run on a table from the termination preorder of the marked states keeps the pair (0, q), and its steps. The four matrices are
+// the caller's.
+fn compare_in(
     n: usize,
     m: usize,
     k: usize,
@@ -151,44 +123,32 @@ fn compare_marked(
     q: usize,
     start: &mut [u64],
     related: &mut [u64],
+    viewed: &mut [u64],
+    blocks: &mut [u64],
 ) -> Compared
-    requires { ⌜ Table n m k (now sources) (now actions) (now targets) × (q < n) × (length (now start) ≡ n * rowWords n) × (length (now related) ≡ n * rowWords n) ⌝ }
-    ensures { λ r. ⌜ r ≡ compareStates (markedLts n m k (now (marks .entry)) (now (sources .entry)) (now (actions .entry)) (now (targets .entry))) q ⌝ }
+    requires { ⌜ Table n m k (now sources) (now actions) (now targets) × (q < n) ⌝ }
+    requires { ⌜ (length (now start) ≡ n * rowWords n) × (length (now related) ≡ n * rowWords n) ⌝ }
+    requires { ⌜ (length (now viewed) ≡ n * rowWords n) × (length (now blocks) ≡ n * rowWords n) ⌝ }
+    ensures { λ r. ⌜ pairReply (markedLts n m k (now (marks .entry)) (now (sources .entry)) (now (actions .entry)) (now (targets .entry))) q
+        ≡ compareReply r ⌝ }
 {
     relation::write_termination(marks, n, start);
-    compare_from(n, m, k, sources, actions, targets, start, q, related)
-}
-
-// The same, with K the caller's.
-fn compare_started(
-    n: usize,
-    m: usize,
-    k: usize,
-    marks: &[u8; 256],
-    sources: &[u16; 1024],
-    actions: &[u8; 1024],
-    targets: &[u16; 1024],
-    q: usize,
-    related: &mut [u64],
-) -> Compared
-    requires { ⌜ Table n m k (now sources) (now actions) (now targets) × (q < n) × (length (now related) ≡ n * rowWords n) ⌝ }
-    ensures { λ r. ⌜ r ≡ compareStates (markedLts n m k (now (marks .entry)) (now (sources .entry)) (now (actions .entry)) (now (targets .entry))) q ⌝ }
-{
-    let mut start = [0u64; 1024];
-    let w = (n + 63) / 64;
-    let size = n * w;
-    compare_marked(
+    let schedule: [u16; 0] = [];
+    let steps = refinement::refine_all(
         n,
         m,
         k,
-        marks,
         sources,
         actions,
         targets,
-        q,
-        &mut start[..size],
+        start,
+        &schedule,
         related,
-    )
+        viewed,
+        blocks,
+    );
+    let w = (n + 63) / 64;
+    verdict(relation::has(related, w, 0, q), steps)
 }
 
 // The same on a table alone.
@@ -203,12 +163,16 @@ fn compare_table(
     q: usize,
 ) -> Compared
     requires { ⌜ Table n m k (now sources) (now actions) (now targets) × (q < n) ⌝ }
-    ensures { λ r. ⌜ r ≡ compareStates (markedLts n m k (now (marks .entry)) (now (sources .entry)) (now (actions .entry)) (now (targets .entry))) q ⌝ }
+    ensures { λ r. ⌜ pairReply (markedLts n m k (now (marks .entry)) (now (sources .entry)) (now (actions .entry)) (now (targets .entry))) q
+        ≡ compareReply r ⌝ }
 {
+    let mut start = [0u64; 1024];
     let mut related = [0u64; 1024];
+    let mut viewed = [0u64; 1024];
+    let mut blocks = [0u64; 1024];
     let w = (n + 63) / 64;
     let size = n * w;
-    compare_started(
+    compare_in(
         n,
         m,
         k,
@@ -217,14 +181,18 @@ fn compare_table(
         actions,
         targets,
         q,
+        &mut start[..size],
         &mut related[..size],
+        &mut viewed[..size],
+        &mut blocks[..size],
     )
 }
 
 // Compares two readable encodings whose disjoint union is within the limits.
 fn compare_joined(first: &[u8], h: encoding::Header, second: &[u8], g: encoding::Header) -> Compared
-    requires { ⌜ ReadableAs (now first) h × ReadableAs (now second) g × (h .states + g .states ≤ 256) × (h .transitions + g .transitions ≤ 1024) ⌝ }
-    ensures { λ r. ⌜ r ≡ compareStates (disjointUnion (ltsOf (now (first .entry))) (ltsOf (now (second .entry)))) (h .states) ⌝ }
+    requires { ⌜ ReadableAs (now first) h × ReadableAs (now second) g ⌝ }
+    requires { ⌜ (h .states + g .states ≤ 256) × (h .transitions + g .transitions ≤ 1024) ⌝ }
+    ensures { λ r. ⌜ pairReply (disjointUnion (ltsOf (now (first .entry))) (ltsOf (now (second .entry)))) (h .states) ≡ compareReply r ⌝ }
 {
     let mut marks = [0u8; 256];
     let mut offsets = [0u16; 257];
@@ -276,7 +244,8 @@ fn compare_readable(
     g: encoding::Header,
 ) -> Compared
     requires { ⌜ ReadableAs (now first) h × ReadableAs (now second) g ⌝ }
-    ensures { λ r. ⌜ r ≡ compareReadable (now (first .entry)) h (now (second .entry)) g ⌝ }
+    ensures { λ r. ⌜ checked (fits h g otherwise TooLarge ∷ []) refused
+        (pairReply (disjointUnion (ltsOf (now (first .entry))) (ltsOf (now (second .entry)))) (h .states)) ≡ compareReply r ⌝ }
 {
     if !((h.states + g.states <= 256) & (h.transitions + g.transitions <= 1024)) {
         return Compared::Refused(lts::Refusal::TooLarge);
@@ -287,7 +256,8 @@ fn compare_readable(
 // Compares a readable encoding with a second, which is still to be read.
 fn compare_second(first: &[u8], h: encoding::Header, second: &[u8]) -> Compared
     requires { ⌜ ReadableAs (now first) h ⌝ }
-    ensures { λ r. ⌜ r ≡ compareSecond (readEncoding (now (second .entry))) (now (first .entry)) h (now (second .entry)) ⌝ }
+    ensures { λ r. ⌜ checked (sheetRules (now (second .entry)) ++ fits h (headerOf (now (second .entry))) otherwise TooLarge ∷ []) refused
+        (pairReply (disjointUnion (ltsOf (now (first .entry))) (ltsOf (now (second .entry)))) (h .states)) ≡ compareReply r ⌝ }
 {
     let reading = encoding::read_encoding(second);
     match reading {
@@ -298,8 +268,8 @@ fn compare_second(first: &[u8], h: encoding::Header, second: &[u8]) -> Compared
 
 // Compare: whether state 0 of the second encoding's system simulates state 0 of the first's, with the steps made.
 pub fn compare(first: &[u8], second: &[u8]) -> Compared
-    ensures { λ r. ⌜ r ≡ compareCall (now (first .entry)) (now (second .entry)) ⌝ }
-    ensures { λ r. ⌜ Promised (now (first .entry)) (now (second .entry)) r ⌝ }
+    ensures { λ r. ⌜ compareCall (now (first .entry)) (now (second .entry)) ≡ compareReply r ⌝ }
+    ensures { λ r. ⌜ ComparePromise (now (first .entry)) (now (second .entry)) (compareReply r) ⌝ }
 {
     let reading = encoding::read_encoding(first);
     match reading {

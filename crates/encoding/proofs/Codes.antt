@@ -19,7 +19,7 @@ unfoldable pub code : Transition → ℕ
 code x = 256 * x .action + x .target
 
 -- ## Rising lists
-abbrev Rising : ℕ → List ℕ → Type 0
+abbrev pub Rising : ℕ → List ℕ → Type 0
 Rising b [] = Unit {0}
 Rising b (x ∷ l) = (b ≤ x) × Rising (suc x) l
 
@@ -31,7 +31,7 @@ rising-append : (b m : ℕ) (k l : List ℕ) → b ≤ m → Rising b k → Ever
 rising-append b m [] l u r e q = rising-down b m l u q
 rising-append b m (x ∷ k) l u r e q = (r .0, rising-append (suc x) m k l (e .0) (r .1) (e .1) q)
 
-rising-out : (x b : ℕ) (l : List ℕ) → x < b → Rising b l → member x l ≡ false
+pub rising-out : (x b : ℕ) (l : List ℕ) → x < b → Rising b l → member x l ≡ false
 unfolding member
 rising-out x b [] u r = refl
 rising-out x b (y ∷ l) u r = let z = r .0 in rw (ne-eqb x y (λ e. omega arith), rising-out x (suc y) l (omega arith) (r .1))
@@ -107,9 +107,12 @@ module _ (L : Lts) (few : L .states ≤ 256) (p : ℕ) where
             (passing-keeps (L .transition p (suc a)) (λ t. c + t < 256 * (suc a + 1)) (L .states) (λ t u e. omega arith))),
       )
 
-  pub codes-distinct : distinct (map code (transitionsOf L p)) ≡ true
+  pub codes-up : Rising 0 (map code (transitionsOf L p))
   unfolding transitionsOf
-  codes-distinct = rising-distinct 0 _ (by-rising (L .actions) .0)
+  codes-up = by-rising (L .actions) .0
+
+  pub codes-distinct : distinct (map code (transitionsOf L p)) ≡ true
+  codes-distinct = rising-distinct 0 _ codes-up
 
   pub codes-rising : (i j : ℕ) → i < j → j < length (transitionsOf L p) → code (nth (transitionsOf L p) i) < code (nth (transitionsOf L p) j)
   unfolding transitionsOf

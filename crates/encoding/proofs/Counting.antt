@@ -31,20 +31,20 @@ distinct-count b (y ∷ l) d k =
     passing-or b y (λ x. member x l) (k .0) (not-true _ (p .0)) ∙ ap suc (distinct-count b l (p .1) (k .1))
 
 -- ## What every member of a list keeps
-member-keeps : (P : ℕ → Type 0) (x : ℕ) (l : List ℕ) → Every P l → (P x → ⊥) → member x l ≡ false
+pub member-keeps : (P : ℕ → Type 0) (x : ℕ) (l : List ℕ) → Every P l → (P x → ⊥) → member x l ≡ false
 unfolding member
 member-keeps P x [] a n = refl
 member-keeps P x (y ∷ l) a n = rw (ne-eqb x y (λ e. n (rw e (a .0))), member-keeps P x l (a .1) n)
 
 -- ## The actions and targets on a chain
 -- an action from 1 to m and a target below n, as one number
-record Good (h : Header) (x : ℕ) : Type 0 where
-  low : 256 ≤ x
-  high : x < 256 * (h .actions + 1)
-  target : x % 256 < h .states
+pub record Good (h : Header) (x : ℕ) : Type 0 where
+  pub low : 256 ≤ x
+  pub high : x < 256 * (h .actions + 1)
+  pub target : x % 256 < h .states
 
 module _ (s : List ℕ) (h : Header) (g : ReadableAs s h) where
-  good-successors : (p : ℕ) → p < h .states → Every (Good h) (map (successor s h) (chain s h p))
+  pub good-successors : (p : ℕ) → p < h .states → Every (Good h) (map (successor s h) (chain s h p))
   unfolding successor
   good-successors p l =
       every-map (Good h) (successor s h) (chain s h p)

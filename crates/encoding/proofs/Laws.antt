@@ -1,20 +1,18 @@
--- The laws that callers use. Of each encoding s that is read with the header h: `readable-of` (what the loader asks), `denoted`,
--- `normal-form`; and `fresh-buffers`.
+-- The laws that callers use: what an encoding that is read denotes, and the promise of read.
 use Prim.Native.Nat.{ℕ}
-use mathlib.Core.Path.{_≡_, ap}
+use mathlib.Core.Path.{_≡_, refl, sym, ap}
 use mathlib.Core.List.{List}
+use Rattle.lts.proofs.Rule.{when-broken, when-kept}
 use Rattle.encoding.specs.declared.Header.{Header}
-use Rattle.encoding.specs.declared.Reading.the-variants.{Readable}
-use Rattle.encoding.specs.Encoding.{readEncoding}
-use Rattle.encoding.specs.Denotation.{ltsOf}
-use Rattle.encoding.specs.Normal.{normal}
-use Rattle.encoding.specs.Laws.{Denoted, NormalForm}
-use Rattle.encoding.proofs.Reader.{readable-of, reads}
+use Rattle.encoding.specs.declared.Reading.{Reading}
+use Rattle.encoding.specs.declared.Reading.the-variants.{Readable, Refused}
+use Rattle.encoding.specs.Records.{headerOf}
+use Rattle.encoding.specs.Encoding.{sheetRules, readEncoding}
+use Rattle.encoding.specs.Read.{readingReply, Denoted, ReadPromise}
+use Rattle.encoding.proofs.Reader.{sheet-passed, readable-of}
 use Rattle.encoding.proofs.Denotation.{lts-states, lts-actions, well-formed}
 use Rattle.encoding.proofs.Counting.{all-count}
 use Rattle.encoding.proofs.Table.{all-is}
-use Rattle.encoding.proofs.NormalReads.{normal-length}
-use Rattle.encoding.proofs.NormalSame.{normal-readable, same}
 
 pub denoted : (s : List ℕ) (h : Header) → readEncoding s ≡ Readable h → Denoted s h
 denoted s h e =
@@ -27,13 +25,13 @@ denoted s h e =
       transitions = rw (all-is s h g) (all-count s h g);
     }
 
-pub normal-form : (s : List ℕ) (h : Header) → readEncoding s ≡ Readable h → NormalForm s h
-normal-form s h e =
-    let g = readable-of e in
-    record {
-      reads = reads (normal (ltsOf s)) h (normal-readable s h g);
-      same = same s h g;
-      single = λ t q. ap normal q;
-      again = ap normal (same s h g);
-      long = normal-length s h g;
-    }
+-- ## What is promised of read
+pub read-promised : (s : List ℕ) {r : Reading} → r ≡ readEncoding s → ReadPromise s (readingReply r)
+unfolding readEncoding readingReply
+read-promised s {r} is = record {
+  refuses = λ q e. ap readingReply (when-broken (sheetRules s) Refused (Readable (headerOf s)) (sym is) e);
+  answers = λ e. (ap readingReply (when-kept (sheetRules s) Refused (Readable (headerOf s)) (sym is) e), denoted s (headerOf s) (sym (sheet-passed s refl e)));
+}
+
+pub read-meets : (s : List ℕ) {r : Reading} → r ≡ readEncoding s → (r ≡ readEncoding s) × ReadPromise s (readingReply r)
+read-meets s e = (e, read-promised s e)

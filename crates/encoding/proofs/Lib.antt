@@ -8,10 +8,5 @@ pub mod Writes
 pub mod Filling
 pub mod Counting
 pub mod Table
-pub mod Bytes
-pub mod Outcomes
-pub mod NormalReads
-pub mod NormalChains
-pub mod NormalSame
 pub mod Laws
-pub mod Cases
+pub mod Sheets

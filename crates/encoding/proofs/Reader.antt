@@ -1,19 +1,20 @@
--- Laws of a sequence of checks, each of which refuses or goes on, and what is left of `readEncoding` after each.
+-- What reading answers by the rules, and what its answer says of them.
 use Prim.Native.Nat.{ℕ, _≤_, _<_}
-use mathlib.Core.Path.{_≡_, refl, sym, _∙_}
+use mathlib.Core.Path.{_≡_, refl, sym, ap, _∙_}
+use mathlib.Core.Logic.{⊎-elim}
 use mathlib.Core.Bool.{Bool, true, false, not, and-eq-true-iff}
 use mathlib.Core.List.{List}
 use native.Mathlib.Omega.{arith}
 use borrow.Author.Tests.{eq-eqb, le-leb, lt-leb, not-true, not-false, eqb-true, leb-true}
-use lib.ListN.{length}
+use lib.ListN.{length, drop}
 use lib.Dec.{eqb}
 use Rattle.encoding.specs.declared.Header.{Header}
 use Rattle.lts.specs.declared.Refusal.{Refusal}
-use Rattle.lts.specs.declared.Refusal.the-variants.{Length, Range, StateRecord as BadState, TransitionRecord as BadTransition, Chain, Repeated}
-use Rattle.encoding.specs.declared.Reading.{Reading}
+use Rattle.lts.specs.Rule.{Nothing, First, broken}
+use Rattle.lts.proofs.Rule.{pass, done, kept, refuses, passes, finding}
 use Rattle.encoding.specs.declared.Reading.the-variants.{Readable, Refused}
 use Rattle.encoding.specs.Records.{headerOf, encodingLength}
-use Rattle.encoding.specs.Encoding.{inRange, statesFit, transitionsFit, chainsFit, successorsFit, unless, readEncoding}
+use Rattle.encoding.specs.Encoding.{inRange, statesFit, transitionsFit, chainsFit, successorsFit, headedRules, sheetRules, readEncoding}
 use Rattle.encoding.specs.Checked.{ReadableAs, Bounds}
 
 -- rule 2, as facts on the numbers
@@ -21,69 +22,53 @@ pub in-range : (h : Header) → inRange h ≡ true → Bounds h
 unfolding inRange
 in-range h e = let p = simp and-eq-true-iff at e in omega (arith, leb-true)
 
--- ## One check, made by the code as b
-module _ {x : Reading} (t : Bool) (r : Refusal) (a : Reading) {b : Bool} where
-  pub stop : x ≡ unless t r a → b ≡ t → not b ≡ true → Refused r ≡ x
-  unfolding unless
-  stop e q n = sym (e ∙ rw (← q, not-true b n))
-
-  pub pass : x ≡ unless t r a → b ≡ t → not b ≡ false → x ≡ a
-  unfolding unless
-  pass e q n = e ∙ rw (← q, not-false b n)
-
--- ## What is left of the reading
-module _ (s : List ℕ) (h : Header) where
-  abbrev pub fromSuccessors : Reading
-  fromSuccessors = unless (successorsFit s h) Repeated (Readable h)
-
-  abbrev pub fromChains : Reading
-  fromChains = unless (chainsFit s h) Chain fromSuccessors
-
-  abbrev pub fromTransitions : Reading
-  fromTransitions = unless (transitionsFit s h) BadTransition fromChains
-
-  abbrev pub fromStates : Reading
-  fromStates = unless (statesFit s h) BadState fromTransitions
-
-  abbrev pub fromLength : Reading
-  fromLength = unless (eqb (length s) (encodingLength h)) Length fromStates
-
-  abbrev pub fromRange : Reading
-  fromRange = unless (inRange h) Range fromLength
-
-  pub start : 6 ≤ length s → h ≡ headerOf s → readEncoding s ≡ fromRange
+-- ## What reading answers, by the rules
+module _ (s : List ℕ) where
+  pub sheet-refused : {r : Refusal} → broken (sheetRules s) ≡ First r → Refused r ≡ readEncoding s
   unfolding readEncoding
-  start l e = rw e (pass _ _ _ refl (sym (le-leb 6 (length s) l)) refl)
+  sheet-refused e = sym (refuses (sheetRules s) Refused (Readable (headerOf s)) e)
 
-pub short : (s : List ℕ) → length s < 6 → Refused Length ≡ readEncoding s
-unfolding readEncoding
-short s l = stop _ _ _ refl (sym (lt-leb 6 (length s) l)) refl
+  pub sheet-passed : {h : Header} → h ≡ headerOf s → broken (sheetRules s) ≡ Nothing → Readable h ≡ readEncoding s
+  unfolding readEncoding
+  sheet-passed q e = ap Readable q ∙ sym (passes (sheetRules s) Refused (Readable (headerOf s)) e)
+
+  -- what is left of them after the first k, with the header h that the code has read
+  abbrev pub ReadTo : ℕ → Header → Type 0
+  ReadTo k h = broken (sheetRules s) ≡ broken (drop k (headedRules s h))
+
+  pub headed : {h : Header} → h ≡ headerOf s → broken (sheetRules s) ≡ broken (headedRules s h)
+  unfolding sheetRules
+  headed q = ap (λ (h : Header). broken (headedRules s h)) (sym q)
 
 -- ## What a caller learns from an answer
-goes-on : (t : Bool) (r : Refusal) (a : Reading) {h : Header} → unless t r a ≡ Readable h → (t ≡ true) × (a ≡ Readable h)
-unfolding unless
-goes-on true r a e = (refl, e)
-goes-on false r a e = let z : _≡_ {A = ℕ} 0 1 = cc in absurd (omega (arith, z))
+pub sheet-broken : (s : List ℕ) {r : Refusal} → readEncoding s ≡ Refused r → broken (sheetRules s) ≡ First r
+sheet-broken s {r} e = ⊎-elim (λ p. let f = sheet-passed s refl p in cc)
+    (λ q. let f = sheet-refused s (q .1) in let z : q .0 ≡ r = cc in q .1 ∙ ap First z) (finding (sheetRules s))
 
-pub readable-of : {s : List ℕ} {h : Header} → readEncoding s ≡ Readable h → ReadableAs s h
-unfolding readEncoding
-readable-of {s} {h} e =
-    let e₁ = goes-on _ _ _ e in
-    let e₂ = goes-on _ _ _ (e₁ .1) in
-    let e₃ = goes-on _ _ _ (e₂ .1) in
-    let e₄ = goes-on _ _ _ (e₃ .1) in
-    let e₅ = goes-on _ _ _ (e₄ .1) in
-    let e₆ = goes-on _ _ _ (e₅ .1) in
-    let e₇ = goes-on _ _ _ (e₆ .1) in
-    let q : h ≡ headerOf s = cc (e₇ .1) in
-    rw q
-    (record {
+pub sheet-kept : (s : List ℕ) {h : Header} → readEncoding s ≡ Readable h → (broken (sheetRules s) ≡ Nothing) × (h ≡ headerOf s)
+sheet-kept s {h} e =
+    ⊎-elim (λ p. let f = sheet-passed s refl p in (p, cc)) (λ q. let f = sheet-refused s (q .1) in (cc, cc)) (finding (sheetRules s))
+
+pub kept-readable : (s : List ℕ) → broken (sheetRules s) ≡ Nothing → ReadableAs s (headerOf s)
+unfolding sheetRules headedRules
+kept-readable s e =
+    let e₁ = kept _ _ _ e in
+    let e₂ = kept _ _ _ (e₁ .1) in
+    let e₃ = kept _ _ _ (e₂ .1) in
+    let e₄ = kept _ _ _ (e₃ .1) in
+    let e₅ = kept _ _ _ (e₄ .1) in
+    let e₆ = kept _ _ _ (e₅ .1) in
+    let e₇ = kept _ _ _ (e₆ .1) in
+    record {
       recorded =
           record { sized = record { bounds = in-range _ (e₂ .0); long = eqb-true _ _ (e₃ .0) }; states = e₄ .0; transitions = e₅ .0 };
       header = refl;
       chains = e₆ .0;
       successors = e₇ .0;
-    })
+    }
+
+pub readable-of : {s : List ℕ} {h : Header} → readEncoding s ≡ Readable h → ReadableAs s h
+readable-of {s} e = let k = sheet-kept s e in rw (k .1) (kept-readable s (k .0))
 
 -- ## And the other way round
 ranged : (h : Header) → Bounds h → inRange h ≡ true
@@ -91,14 +76,17 @@ unfolding inRange
 ranged h b = rw (le-leb 1 (h .states) (b .state), le-leb (h .states) 256 (b .states), le-leb (h .actions) 64 (b .actions), le-leb (h .transitions) 1024 (b .transitions))
 
 -- an encoding that keeps the rules is read
-pub reads : (s : List ℕ) (h : Header) → ReadableAs s h → readEncoding s ≡ Readable h
-reads s h g =
-    let b = g .recorded .sized .bounds in
+pub readable-kept : {s : List ℕ} {h : Header} → ReadableAs s h → broken (sheetRules s) ≡ Nothing
+unfolding headedRules
+readable-kept {s} {h} g =
     let z = g .recorded .sized .long in
-    let e₁ = start s h (omega arith) (g .header) in
-    let e₂ = pass _ _ _ e₁ (sym (ranged h b)) refl in
+    let e₁ = pass _ _ _ (headed s (g .header)) (sym (le-leb 6 (length s) (omega arith))) refl in
+    let e₂ = pass _ _ _ e₁ (sym (ranged h (g .recorded .sized .bounds))) refl in
     let e₃ = pass _ _ _ e₂ (sym (eq-eqb _ _ z)) refl in
     let e₄ = pass _ _ _ e₃ (sym (g .recorded .states)) refl in
     let e₅ = pass _ _ _ e₄ (sym (g .recorded .transitions)) refl in
     let e₆ = pass _ _ _ e₅ (sym (g .chains)) refl in
-    pass _ _ _ e₆ (sym (g .successors)) refl
+    done (pass _ _ _ e₆ (sym (g .successors)) refl)
+
+pub reads : (s : List ℕ) (h : Header) → ReadableAs s h → readEncoding s ≡ Readable h
+reads s h g = sym (sheet-passed s (g .header) (readable-kept g))

@@ -5,7 +5,7 @@ use mathlib.Core.List.{List, [], _∷_, map}
 use lib.ListN.{length}
 use lib.Dec.{ltb, leb, eqb}
 use Rattle.lts.specs.Bounded.{allBelow, concatBelow}
-use Rattle.lts.specs.declared.Refusal.{Refusal}
+use Rattle.lts.specs.Rule.{Rule, _otherwise_, checked}
 use Rattle.lts.specs.declared.Refusal.the-variants.{Length, Range, StateRecord as BadState, TransitionRecord as BadTransition, Chain, Repeated}
 use Rattle.encoding.specs.declared.Header.{Header}
 use Rattle.encoding.specs.declared.StateRecord.{StateRecord}
@@ -68,20 +68,21 @@ successor s h j = 256 * transitionRecord s h j .action + transitionRecord s h j 
 unfoldable pub successorsFit : List ℕ → Header → Bool
 successorsFit s h = allBelow (h .states) (λ p. distinct (map (successor s h) (chain s h p)))
 
--- the answer a where a rule holds, and otherwise the refusal
-unfoldable pub unless : Bool → Refusal → Reading → Reading
-unless true r a = a
-unless false r a = Refused r
+-- the rules of an encoding with the header h, down the table; those of an encoding
+unfoldable pub headedRules : List ℕ → Header → List Rule
+headedRules s h =
+    leb 6 (length s) otherwise Length
+    ∷ inRange h otherwise Range
+    ∷ eqb (length s) (encodingLength h) otherwise Length
+    ∷ statesFit s h otherwise BadState
+    ∷ transitionsFit s h otherwise BadTransition
+    ∷ chainsFit s h otherwise Chain
+    ∷ successorsFit s h otherwise Repeated
+    ∷ []
 
--- What reading an encoding answers: the first rule that is broken, down the table, or the header.
+unfoldable pub sheetRules : List ℕ → List Rule
+sheetRules s = headedRules s (headerOf s)
+
+-- What reading an encoding answers: the header, or the refusal of the first rule that is broken.
 unfoldable pub readEncoding : List ℕ → Reading
-readEncoding s =
-    let h = headerOf s in
-    unless (leb 6 (length s)) Length
-    (unless (inRange h) Range
-    (unless (eqb (length s) (encodingLength h)) Length
-    (unless (statesFit s h) BadState
-    (unless (transitionsFit s h) BadTransition
-    (unless (chainsFit s h) Chain
-    (unless (successorsFit s h) Repeated
-    (Readable h)))))))
+readEncoding s = checked (sheetRules s) Refused (Readable (headerOf s))

@@ -2,8 +2,7 @@ pub mod Records
 pub mod Encoding
 pub mod Denotation
 pub mod Normal
-pub mod Normalise
 pub mod Checked
 pub mod Marks
 pub mod Loaded
-pub mod Laws
+pub mod Read

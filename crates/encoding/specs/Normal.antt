@@ -1,5 +1,5 @@
--- The normal form: an encoding whose transition records are ordered by source state, then action, then target, with each chain consecutive
--- and in that order. It is a function of the Lts alone, so that an Lts has one.
+-- The normal form as a function of the Lts: what `normalise` writes. That it is in normal form (specs/NormalForm.antt), and the only such
+-- encoding of its Lts, is the law `normal-form` (proofs/Laws.antt).
 use Prim.Native.Nat.{ℕ, zero, suc, _+_}
 use mathlib.Core.Bool.{cond}
 use mathlib.Core.List.{List, [], _∷_, _++_, map}

@@ -1,10 +1,9 @@
-// Encodings of labelled transition systems (document 01, "The sheet"): the reader, the loader that fills a transition table, and the
-// normaliser.
+// Encodings of labelled transition systems (document 01, "The sheet"): the records, the reader, and the loader that fills a transition table.
 ghost use Prim.Native.Nat.{_+_, _*_, _-_, _<_, _≤_};
 ghost use mathlib.Core.Path.{_≡_};
-ghost use mathlib.Core.Bool.{true, cond};
+ghost use mathlib.Core.Bool.{true};
 ghost use mathlib.Core.List.{map};
-ghost use lib.Dec.{eqb, ltb};
+ghost use lib.Dec.{eqb};
 ghost use lib.ListN.{length, getD};
 ghost use lib.Seq.{sets};
 ghost use Rattle.lts.specs.Bounded.{allBelow, passing};
@@ -15,11 +14,11 @@ ghost use Rattle.encoding.specs.Records.{stateRecord, transitionRecord};
 ghost use Rattle.encoding.specs.Encoding.{inRange, stateFits, transitionFits, statesFit, transitionsFit};
 ghost use Rattle.encoding.specs.Encoding.{chain, reached, successor, chainsFit, successorsFit, readEncoding};
 ghost use Rattle.encoding.specs.Denotation.{ltsOf};
-ghost use Rattle.encoding.specs.Normal.{transitionsTo, transitionsOf, firstIndex, transitionsBytes, normal};
-ghost use Rattle.encoding.specs.Normalise.{normalised};
+ghost use Rattle.encoding.specs.Normal.{transitionsTo, transitionsOf, normal};
+ghost use Rattle.encoding.specs.Read.{readingReply, ReadPromise};
 ghost use Rattle.encoding.specs.Checked.{Bounds, Sized, Recorded, FirstKnown, TransitionKnown, ReadableAs};
 ghost use Rattle.encoding.specs.Marks.{fresh, marked, successorSet, held};
-ghost use Rattle.encoding.specs.Loaded.{tableTransitions, tableStates, Buffers, Loaded, Wrote};
+ghost use Rattle.encoding.specs.Loaded.{Buffers, Loaded, Wrote};
 
 pub struct Header {
     pub states: usize,
@@ -46,11 +45,6 @@ pub enum Reading {
     Refused(lts::Refusal),
 }
 
-pub enum Normalised {
-    Written,
-    Refused(lts::Refusal),
-}
-
 // The 16-bit number at `at`, low byte first.
 fn number_at(s: &[u8], at: usize) -> usize
     requires { ⌜ at + 1 < length (now s) ⌝ }
@@ -73,7 +67,7 @@ fn put_two(out: &mut [u8], at: usize, x: usize)
 impl Header {
     pub const BYTES: usize = 6;
 
-    fn new(states: usize, actions: usize, transitions: usize) -> Header
+    pub fn new(states: usize, actions: usize, transitions: usize) -> Header
         ensures { λ r. ⌜ r ≡ record { states = states; actions = actions; transitions = transitions } ⌝ }
     {
         Header {
@@ -90,7 +84,7 @@ impl Header {
         Header::new(number_at(s, 0), number_at(s, 2), number_at(s, 4))
     }
 
-    fn put(self, out: &mut [u8])
+    pub fn put(self, out: &mut [u8])
         requires { ⌜ 6 ≤ length (now out) ⌝ }
         ensures { λ r. ⌜ now (out .exit) ≡ sets (now (out .entry)) 0 (headerBytes self) ⌝ }
     {
@@ -110,7 +104,7 @@ impl Header {
     }
 
     // Where the record of state p starts.
-    fn state_at(self, p: usize) -> usize
+    pub fn state_at(self, p: usize) -> usize
         requires { ⌜ (Bounds self) × (p ≤ self .states) ⌝ }
         ensures { λ r. ⌜ r ≡ stateAt self p ⌝ }
     {
@@ -118,7 +112,7 @@ impl Header {
     }
 
     // Where transition record j, from 1, starts.
-    fn transition_at(self, j: usize) -> usize
+    pub fn transition_at(self, j: usize) -> usize
         requires { ⌜ (Bounds self) × (1 ≤ j) × (j ≤ self .transitions + 1) ⌝ }
         ensures { λ r. ⌜ r ≡ transitionAt self j ⌝ }
     {
@@ -138,7 +132,7 @@ impl Header {
 impl StateRecord {
     pub const BYTES: usize = 4;
 
-    fn new(mark: u8, spare: u8, first: usize) -> StateRecord
+    pub fn new(mark: u8, spare: u8, first: usize) -> StateRecord
         ensures { λ r. ⌜ r ≡ record { mark = mark; spare = spare; first = first } ⌝ }
     {
         StateRecord {
@@ -155,7 +149,7 @@ impl StateRecord {
         StateRecord::new(s[at], s[at + 1], number_at(s, at + 2))
     }
 
-    fn put(self, out: &mut [u8], at: usize)
+    pub fn put(self, out: &mut [u8], at: usize)
         requires { ⌜ at + 3 < length (now out) ⌝ }
         ensures { λ r. ⌜ now (out .exit) ≡ sets (now (out .entry)) at (stateBytes self) ⌝ }
     {
@@ -174,7 +168,7 @@ impl StateRecord {
 impl TransitionRecord {
     pub const BYTES: usize = 6;
 
-    fn new(action: u8, spare: u8, target: usize, next: usize) -> TransitionRecord
+    pub fn new(action: u8, spare: u8, target: usize, next: usize) -> TransitionRecord
         ensures { λ r. ⌜ r ≡ record { action = action; spare = spare; target = target; next = next } ⌝ }
     {
         TransitionRecord {
@@ -192,7 +186,7 @@ impl TransitionRecord {
         TransitionRecord::new(s[at], s[at + 1], number_at(s, at + 2), number_at(s, at + 4))
     }
 
-    fn put(self, out: &mut [u8], at: usize)
+    pub fn put(self, out: &mut [u8], at: usize)
         requires { ⌜ at + 5 < length (now out) ⌝ }
         ensures { λ r. ⌜ now (out .exit) ≡ sets (now (out .entry)) at (transitionBytes self) ⌝ }
     {
@@ -407,6 +401,7 @@ fn successors_fit(s: &[u8], h: Header) -> bool
 // Reads an encoding: its header, or the first rule that it breaks.
 pub fn read_encoding(s: &[u8]) -> Reading
     ensures { λ r. ⌜ r ≡ readEncoding (now (s .entry)) ⌝ }
+    ensures { λ r. ⌜ ReadPromise (now (s .entry)) (readingReply r) ⌝ }
 {
     if s.len() < Header::BYTES {
         return Reading::Refused(lts::Refusal::Length);
@@ -532,125 +527,5 @@ pub fn load(
         at = load_state(s, h, p, at, sources, actions, targets);
         p += 1;
         offsets[p] = at as u16;
-    }
-}
-
-// A 16-bit number as an index.
-fn wide(x: u16) -> usize
-    ensures { λ r. ⌜ (r ≡ x) × (r < 65536) ⌝ }
-{
-    x as usize
-}
-
-// The first index of a state whose transitions stand after the first i and up to the first j.
-fn first_index(i: usize, j: usize) -> usize
-    requires { ⌜ i < 65536 ⌝ }
-    ensures { λ r. ⌜ r ≡ firstIndex i j ⌝ }
-{
-    if i == j {
-        return 0;
-    }
-    i + 1
-}
-
-// The next index of transition i, from 0, of k.
-fn next_index(sources: &[u16; 1024], i: usize, k: usize) -> usize
-    requires { ⌜ (i < k) × (k ≤ 1024) ⌝ }
-    ensures { λ r. ⌜ r ≡ cond (ltb (i + 1) k) (cond (eqb (getD (now (sources .entry)) (i + 1) 0) (getD (now (sources .entry)) i 0)) (i + 2) 0) 0 ⌝ }
-{
-    if i + 1 < k {
-        if sources[i + 1] == sources[i] {
-            return i + 2;
-        }
-        return 0;
-    }
-    0
-}
-
-// The record of state p, from the marks and the row offsets.
-fn table_state(marks: &[u8; 256], offsets: &[u16; 257], p: usize) -> StateRecord
-    requires { ⌜ p < 256 ⌝ }
-    ensures { λ r. ⌜ r ≡ record { mark = getD (now (marks .entry)) p 0; spare = 0; first = firstIndex (getD (now (offsets .entry)) p 0) (getD (now (offsets .entry)) (p + 1) 0) } ⌝ }
-{
-    let i = wide(offsets[p]);
-    let j = wide(offsets[p + 1]);
-    StateRecord::new(marks[p], 0, first_index(i, j))
-}
-
-// Writes the state records.
-fn write_states(out: &mut [u8], h: Header, marks: &[u8; 256], offsets: &[u16; 257])
-    requires { ⌜ (Bounds h) × (encodingLength h ≤ length (now out)) ⌝ }
-    ensures { λ r. ⌜ now (out .exit) ≡ sets (now (out .entry)) (stateAt h 0) (tableStates (now (marks .entry)) (now (offsets .entry)) (h .states)) ⌝ }
-{
-    let n = h.states;
-    let mut p = 0;
-    while p < n {
-        let r = table_state(marks, offsets, p);
-        r.put(out, h.state_at(p));
-        p += 1;
-    }
-}
-
-// Writes the transition records.
-fn write_transitions(
-    out: &mut [u8],
-    h: Header,
-    sources: &[u16; 1024],
-    actions: &[u8; 1024],
-    targets: &[u16; 1024],
-)
-    requires { ⌜ (Bounds h) × (encodingLength h ≤ length (now out)) ⌝ }
-    ensures { λ r. ⌜ now (out .exit) ≡ sets (now (out .entry)) (transitionAt h 1) (transitionsBytes 1 (tableTransitions (now (sources .entry)) (now (actions .entry)) (now (targets .entry)) 0 (h .transitions))) ⌝ }
-{
-    let k = h.transitions;
-    let mut i = 0;
-    while i < k {
-        let next = next_index(sources, i, k);
-        let r = TransitionRecord::new(actions[i], 0, wide(targets[i]), next);
-        r.put(out, h.transition_at(i + 1));
-        i += 1;
-    }
-}
-
-// Writes the normal form of a readable encoding into a buffer of its length.
-fn write_normal(s: &[u8], h: Header, out: &mut [u8])
-    requires { ⌜ (ReadableAs (now s) h) × (length (now out) ≡ length (now s)) ⌝ }
-    ensures { λ r. ⌜ now (out .exit) ≡ normal (ltsOf (now (s .entry))) ⌝ }
-{
-    let mut marks = [0u8; 256];
-    let mut offsets = [0u16; 257];
-    let mut sources = [0u16; 1024];
-    let mut actions = [0u8; 1024];
-    let mut targets = [0u16; 1024];
-    load(
-        s,
-        h,
-        &mut marks,
-        &mut offsets,
-        &mut sources,
-        &mut actions,
-        &mut targets,
-    );
-    h.put(out);
-    write_states(out, h, &marks, &offsets);
-    write_transitions(out, h, &sources, &actions, &targets);
-}
-
-// Writes an encoding's normal form. An encoding that is refused, and a buffer of another length than the encoding's own, leave the
-// buffer as it is.
-pub fn normalise(s: &[u8], out: &mut [u8]) -> Normalised
-    ensures { λ r. ⌜ r ≡ normalised (now (s .entry)) (now (out .entry)) .answer ⌝ }
-    ensures { λ r. ⌜ now (out .exit) ≡ normalised (now (s .entry)) (now (out .entry)) .bytes ⌝ }
-{
-    let answer = read_encoding(s);
-    match answer {
-        Reading::Refused(r) => Normalised::Refused(r),
-        Reading::Readable(h) => {
-            if out.len() != s.len() {
-                return Normalised::Refused(lts::Refusal::Buffer);
-            }
-            write_normal(s, h, out);
-            Normalised::Written
-        }
     }
 }

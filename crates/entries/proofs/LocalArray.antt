@@ -4,7 +4,7 @@
 --     repeated, repeated-are, repeated-stored   n times one element, and its machine value. They do not compute: the array may be large
 --     rep-repeated     `[x; n]` evaluates to it.        init-stored   `init` for such a value
 -- Assumes `Given`.
-use mathlib.Core.Path.{_≡_, refl, ap}
+use mathlib.Core.Path.{_≡_, refl}
 use Prim.Native.Nat.{ℕ, zero, suc}
 use mathlib.Core.List.{List, [], _∷_}
 use lib.Dec.{T}

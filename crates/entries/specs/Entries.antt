@@ -1,19 +1,25 @@
 -- Strategies in a lent slice of entries.
-use Prim.Native.Nat.{ℕ, _*_, _/_, _≤_}
+use Prim.Native.Nat.{ℕ, _*_, _≤_}
 use mathlib.Core.Path.{_≡_}
 use mathlib.Core.Bool.{cond}
-use mathlib.Core.List.{List, _++_}
+use mathlib.Core.List.{List}
 use lib.Dec.{leb}
-use lib.ListN.{length, take, drop}
+use lib.ListN.{length, take}
 use Rattle.lts.specs.declared.Entry.{Entry}
+use Rattle.lts.specs.declared.Refusal.{Refusal}
+use Rattle.lts.specs.Strategy.{entriesOf}
+use Rattle.lts.specs.Rule.{Nothing, First, broken}
 use Rattle.strategy.specs.declared.Written.{Written}
 use Rattle.strategy.specs.declared.Written.the-variants.{Entries, Refused}
-use Rattle.strategy.specs.Demand.{Promised}
-use Rattle.strategy.specs.Write.{writeStrategy}
+use Rattle.strategy.specs.Write.{planOf, planLength, writeRules}
 
 -- the entry that stands for what lies past the end of a list
 abbrev pub blank : Entry
 blank = record { p = 0; q = 0; a = 0; t = 0 }
+
+-- a slice of entries carries what its elements are
+abbrev pub itself : List Entry → List Entry
+itself es = es
 
 -- how many entries an answer counts: none where it is a refusal
 unfoldable pub entryCount : Written → ℕ
@@ -24,10 +30,10 @@ entryCount (Refused r) = 0
 unfoldable pub numberCount : ℕ → ℕ
 numberCount room = cond (leb room 65536) (4 * room) 262144
 
--- the answer is that for any numbers d of `room` whole entries, and what is written into d is the first entries of `numbers`
-pub record WrittenWithin (s preorder : List ℕ) (p q room : ℕ) (answer : Written) (numbers : List ℕ) : Type 0 where
-  pub answered : (d : List ℕ) → length d / 4 ≡ room → answer ≡ writeStrategy s preorder p q d .answer
-  pub carried : (d : List ℕ) → length d / 4 ≡ room → take (4 * entryCount answer) numbers ++ drop (4 * entryCount answer) d ≡ writeStrategy s preorder p q d .numbers
+-- by the rules of write plan for a buffer with room for `room` entries: its answer, and the plan is the first entries of `numbers`
+pub record WrittenWithin (s start : List ℕ) (p q room : ℕ) (answer : Written) (numbers : List ℕ) : Type 0 where
+  pub refuses : (r : Refusal) → broken (writeRules s start p q room) ≡ First r → answer ≡ Refused r
+  pub answers : broken (writeRules s start p q room) ≡ Nothing → answer ≡ Entries (planLength s start p q)
+  pub written : broken (writeRules s start p q room) ≡ Nothing → take (planLength s start p q) (entriesOf numbers) ≡ planOf s start p q
   pub fits : entryCount answer ≤ room
   pub whole : 4 * entryCount answer ≤ length numbers
-  pub promised : Promised s preorder

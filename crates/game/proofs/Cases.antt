@@ -1,30 +1,43 @@
--- F6 of document 01 and the refusals 1, 11 and 12, computed from the definitions.
+-- F6 of document 01 and refusals, computed from the definitions; and replies that the promise refuses.
 use Prim.Native.Nat.{ℕ}
-use mathlib.Core.Path.{_≡_, refl}
+use native.Mathlib.Omega.{arith}
+use mathlib.Core.Path.{_≡_, refl, sym, ap}
+use mathlib.Core.Logic.{⊎-elim}
 use mathlib.Core.List.{List, [], _∷_, _++_}
-use Rattle.lts.specs.Bounded.{anyBelow, allBelow, concatBelow}
-use Rattle.lts.specs.System.{allStates, anyState, anyAction}
+use Rattle.lts.specs.Bounded.{anyBelow, allBelow, concatBelow, restrict}
+use Rattle.lts.specs.System.{allStates, anyState, allActions, anyAction, into, answered}
+use Rattle.lts.specs.Rounds.{round}
 use Rattle.lts.specs.Game.{defenderLoses, challengerWins}
-use Rattle.lts.specs.declared.Refusal.the-variants.{Length, NoState, TooManyRounds}
+use Rattle.lts.specs.declared.Refusal.the-variants.{Length, NotReflexive, NoState, TooManyRounds}
+use Rattle.lts.specs.Rule.{broken, checked, Reply, given, refused}
+use Rattle.encoding.proofs.Sheets.{F3}
 use Rattle.encoding.specs.Records.{numberAt, headerOf, stateRecordAt, transitionRecordAt, stateRecord, transitionRecord}
-use Rattle.encoding.specs.Encoding.{inRange, stateFits, statesFit, transitionFits, transitionsFit, walk, chain, reached, member, distinct, chainsFit, successor, successorsFit, unless as unlessRead, readEncoding}
+use Rattle.encoding.specs.Encoding.{inRange, stateFits, statesFit, transitionFits, transitionsFit, walk, chain, reached, member, distinct, chainsFit, successor, successorsFit, headedRules, sheetRules}
 use Rattle.encoding.specs.Denotation.{any, ltsOf}
 use Rattle.relation.specs.Matrix.{bit, inMatrix}
-use Rattle.relation.specs.Check.{reflexiveBelow, transitivePair, transitiveAt, transitiveBelow, isMatrix, checkPreorder}
-use Rattle.game.specs.declared.Played.the-variants.{Won, NotWon, Refused}
-use Rattle.game.specs.Play.{unless, onPreorder, playReadable, playReading, handPlay}
+use Rattle.relation.specs.Check.{reflexiveBelow, transitivePair, transitiveAt, transitiveBelow, isMatrix, startRules}
+use Rattle.inputs.specs.Inputs.{inputRules, pairRules}
+use Rattle.game.specs.Play.{playRules, playCall, PlayPromise}
 
--- F3's encoding, and the relation of all pairs, which is its termination preorder
-F3 : List ℕ
-F3 =
-    3 ∷ 0 ∷ 1 ∷ 0 ∷ 2 ∷ 0
-    ∷ 0 ∷ 0 ∷ 1 ∷ 0 ∷ 0 ∷ 0 ∷ 0 ∷ 0 ∷ 0 ∷ 0 ∷ 2 ∷ 0
-    ∷ 1 ∷ 0 ∷ 1 ∷ 0 ∷ 0 ∷ 0 ∷ 1 ∷ 0 ∷ 2 ∷ 0 ∷ 0 ∷ 0 ∷ []
+abbrev all : List ℕ
+all = 7 ∷ 7 ∷ 7 ∷ []
 
-pairs : List ℕ
-pairs = 7 ∷ 7 ∷ 7 ∷ []
+-- from (2, 0) one round does not win and two do; a sheet's refusal comes before a start's, that before a pair's, and that before the rounds'
+cases : (playCall F3 all 2 0 1 ≡ given (0 ∷ [])) × (playCall F3 all 2 0 2 ≡ given (1 ∷ []))
+    × (playCall (F3 ++ 0 ∷ []) (0 ∷ 0 ∷ 0 ∷ []) 3 0 7 ≡ refused Length) × (playCall F3 (0 ∷ 0 ∷ 0 ∷ []) 3 0 7 ≡ refused NotReflexive)
+    × (playCall F3 all 0 3 7 ≡ refused NoState) × (playCall F3 all 2 0 7 ≡ refused TooManyRounds)
+unfolding anyBelow allBelow concatBelow allStates anyState anyAction defenderLoses challengerWins broken checked numberAt headerOf stateRecordAt transitionRecordAt stateRecord transitionRecord inRange stateFits statesFit transitionFits transitionsFit walk chain reached member distinct chainsFit successor successorsFit headedRules sheetRules any ltsOf bit inMatrix reflexiveBelow transitivePair transitiveAt transitiveBelow isMatrix startRules inputRules pairRules playRules playCall
+cases = (refl, refl, refl, refl, refl, refl)
 
-cases : (handPlay F3 pairs 2 0 1 ≡ NotWon) × (handPlay F3 pairs 2 0 2 ≡ Won) × (handPlay (F3 ++ 0 ∷ []) pairs 3 0 7 ≡ Refused Length)
-    × (handPlay F3 pairs 0 3 7 ≡ Refused NoState) × (handPlay F3 pairs 2 0 7 ≡ Refused TooManyRounds)
-unfolding F3 pairs anyBelow allBelow concatBelow allStates anyState anyAction defenderLoses challengerWins numberAt headerOf stateRecordAt transitionRecordAt stateRecord transitionRecord inRange stateFits statesFit transitionFits transitionsFit walk chain reached member distinct chainsFit successor successorsFit unlessRead readEncoding any ltsOf bit inMatrix reflexiveBelow transitivePair transitiveAt transitiveBelow isMatrix checkPreorder unless onPreorder playReadable playReading handPlay
-cases = (refl, refl, refl, refl, refl)
+-- yes is not no
+not-both : given (1 ∷ []) ≡ given (0 ∷ []) → ⊥
+not-both e = let f = ap (λ (r : Reply). r .values) e in let z : _≡_ {A = ℕ} 1 0 = cc in omega arith
+
+-- the promise refuses a win with one round, and none with two
+not-early : PlayPromise F3 all 2 0 1 (given (1 ∷ [])) → ⊥
+unfolding anyBelow allBelow concatBelow restrict allStates anyState allActions into answered round broken numberAt headerOf stateRecordAt transitionRecordAt stateRecord transitionRecord inRange stateFits statesFit transitionFits transitionsFit walk chain reached member distinct chainsFit successor successorsFit headedRules sheetRules any ltsOf bit inMatrix reflexiveBelow transitivePair transitiveAt transitiveBelow isMatrix startRules inputRules pairRules playRules
+not-early p = ⊎-elim (λ x. x .1) (λ x. not-both (x .0)) (p .answers refl)
+
+not-never : PlayPromise F3 all 2 0 2 (given (0 ∷ [])) → ⊥
+unfolding anyBelow allBelow concatBelow restrict allStates anyState allActions into answered round broken numberAt headerOf stateRecordAt transitionRecordAt stateRecord transitionRecord inRange stateFits statesFit transitionFits transitionsFit walk chain reached member distinct chainsFit successor successorsFit headedRules sheetRules any ltsOf bit inMatrix reflexiveBelow transitivePair transitiveAt transitiveBelow isMatrix startRules inputRules pairRules playRules
+not-never p = ⊎-elim (λ x. not-both (sym (x .0))) (λ x. x .1 tt) (p .answers refl)

@@ -18,14 +18,14 @@ use Rattle.lts.proofs.Bounded.{and-iff, imp-iff, any-iff, test-ext, below-suc}
 use Rattle.lts.proofs.System.{any-action-to, any-action-from, any-state-iff, all-state-iff}
 use Rattle.lts.proofs.Table.{entry-is, table-formed}
 
-pub holds : {b : Bool} → b ≡ true → T b
+holds : {b : Bool} → b ≡ true → T b
 holds e = subst⁻¹ T e tt
 
-pub held : (b : Bool) → T b → b ≡ true
+held : (b : Bool) → T b → b ≡ true
 held true t = refl
 held false t = absurd t
 
-pub fails : (b : Bool) → (T b → ⊥) → b ≡ false
+fails : (b : Bool) → (T b → ⊥) → b ≡ false
 fails true f = absurd (f tt)
 fails false f = refl
 
@@ -34,25 +34,25 @@ pub between-more : (P : ℕ → Type 0) (o i : ℕ) → ((j : ℕ) → o ≤ j �
 between-more P o i h x j a b =
     ⊎-elim (λ (l : j < i). h j a l) (λ (e : j ≡ i). subst⁻¹ P e x) (below-suc (rw add-one at b))
 
--- the challenger has won outside the preorder, and has not inside it with no rounds left
-pub wins-outside : (L : Lts) (preorder : Rel) (rounds p q : ℕ) → preorder p q ≡ false → challengerWins L preorder rounds p q ≡ true
+-- the challenger has won outside the start, and has not inside it with no rounds left
+pub wins-outside : (L : Lts) (start : Rel) (rounds p q : ℕ) → start p q ≡ false → challengerWins L start rounds p q ≡ true
 unfolding challengerWins
-wins-outside L preorder zero p q e = rw e
-wins-outside L preorder (suc k) p q e = rw e
+wins-outside L start zero p q e = rw e
+wins-outside L start (suc k) p q e = rw e
 
-pub wins-over : (L : Lts) (preorder : Rel) (rounds p q : ℕ) → preorder p q ≡ true → rounds ≡ 0 → challengerWins L preorder rounds p q ≡ false
+pub wins-over : (L : Lts) (start : Rel) (rounds p q : ℕ) → start p q ≡ true → rounds ≡ 0 → challengerWins L start rounds p q ≡ false
 unfolding challengerWins
-wins-over L preorder rounds p q e z = rw (z, e)
+wins-over L start rounds p q e z = rw (z, e)
 
 -- some transition of p has every reply lost
 pub beaten : Lts → Rel → ℕ → ℕ → Bool
 beaten L won p q = anyAction L (λ a. anyState L (λ t. L .transition p a t && defenderLoses L won q a t))
 
-pub wins-more : (L : Lts) (preorder : Rel) (rounds p q : ℕ) → preorder p q ≡ true → 0 < rounds
-    → challengerWins L preorder rounds p q ≡ beaten L (challengerWins L preorder (rounds - 1)) p q
+pub wins-more : (L : Lts) (start : Rel) (rounds p q : ℕ) → start p q ≡ true → 0 < rounds
+    → challengerWins L start rounds p q ≡ beaten L (challengerWins L start (rounds - 1)) p q
 unfolding challengerWins beaten
-wins-more L preorder zero p q e h = absurd (not-suc-le-zero h)
-wins-more L preorder (suc k) p q e h = rw (e, sub-one)
+wins-more L start zero p q e h = absurd (not-suc-le-zero h)
+wins-more L start (suc k) p q e h = rw (e, sub-one)
 
 module _ (n m size : ℕ) (sources actions targets : List ℕ) where
   abbrev L : Lts
@@ -182,12 +182,12 @@ module _ (n size : ℕ) (sources actions targets : List ℕ) where
       (in-labels m′ table (a .0) (i .0) (i .1) (i .3)) (by-labels m m′ won p q (a .0) (a .1))
 
   pub wins-labels : (m m′ : ℕ) → Table n m size sources actions targets → Table n m′ size sources actions targets
-      → (preorder : Rel) (rounds : ℕ) → challengerWins (labelled m) preorder rounds ≡ challengerWins (labelled m′) preorder rounds
+      → (start : Rel) (rounds : ℕ) → challengerWins (labelled m) start rounds ≡ challengerWins (labelled m′) start rounds
   unfolding challengerWins beaten
-  wins-labels m m′ table table′ preorder zero = refl
-  wins-labels m m′ table table′ preorder (suc k) =
-      ap (λ (W : Rel). λ p q. not (preorder p q) || beaten (labelled m) W p q) (wins-labels m m′ table table′ preorder k)
-      ∙ fun-ext (λ p. fun-ext (λ q. ap (λ (b : Bool). not (preorder p q) || b)
-      (test-ext (beaten (labelled m) (challengerWins (labelled m′) preorder k) p q) (beaten (labelled m′) (challengerWins (labelled m′) preorder k) p q)
-      (beaten-labels m m′ table′ (challengerWins (labelled m′) preorder k) p q)
-      (beaten-labels m′ m table (challengerWins (labelled m′) preorder k) p q))))
+  wins-labels m m′ table table′ start zero = refl
+  wins-labels m m′ table table′ start (suc k) =
+      ap (λ (W : Rel). λ p q. not (start p q) || beaten (labelled m) W p q) (wins-labels m m′ table table′ start k)
+      ∙ fun-ext (λ p. fun-ext (λ q. ap (λ (b : Bool). not (start p q) || b)
+      (test-ext (beaten (labelled m) (challengerWins (labelled m′) start k) p q) (beaten (labelled m′) (challengerWins (labelled m′) start k) p q)
+      (beaten-labels m m′ table′ (challengerWins (labelled m′) start k) p q)
+      (beaten-labels m′ m table (challengerWins (labelled m′) start k) p q))))

@@ -1,4 +1,5 @@
 pub mod Entries
 pub mod Cells
+pub mod Promise
 pub mod Plays
 mod Cases

@@ -15,13 +15,13 @@ system n size sources actions targets = tableLts n 64 size sources actions targe
 
 -- the challenger wins from a pair, by the number of rounds left
 abbrev pub wins : ℕ → ℕ → List ℕ → List ℕ → List ℕ → List ℕ → ℕ → Rel
-wins n size sources actions targets preorder = challengerWins (system n size sources actions targets) (relationOf n preorder)
+wins n size sources actions targets start = challengerWins (system n size sources actions targets) (relationOf n start)
 
--- what the loader ensures of a table, and the check of a preorder of its matrix
-pub record Playable (n size : ℕ) (sources actions targets offsets preorder : List ℕ) : Type 0 where
+-- what the loader ensures of a table, and the check of a start of its matrix
+pub record Playable (n size : ℕ) (sources actions targets offsets start : List ℕ) : Type 0 where
   pub table : Table n 64 size sources actions targets
   pub rows : Rows n size sources offsets
-  pub matrix : Matrix n preorder
+  pub matrix : Matrix n start
 
 -- what a cell says of a result: 1 that it is no win, 2 that it is one, any other number nothing
 pub record Says (cell : ℕ) (result : Bool) : Type 0 where

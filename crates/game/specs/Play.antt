@@ -1,44 +1,41 @@
--- What hand play answers (document 01, "Hand play and comparison" and the table of refusals).
+-- The call hand play: its reply (document 01, "Hand play and comparison" and the table of refusals), and what is promised of it.
 use Prim.Native.Nat.{ℕ}
-use mathlib.Core.Bool.{Bool, cond, _&&_}
-use mathlib.Core.List.{List}
-use lib.Dec.{ltb, leb}
+use mathlib.Core.Path.{_≡_}
+use mathlib.Core.Bool.{cond, not}
+use mathlib.Core.List.{List, [], _∷_, _++_}
+use lib.Dec.{T, leb}
 use Rattle.lts.specs.declared.Refusal.{Refusal}
-use Rattle.lts.specs.declared.Refusal.the-variants.{NoState, TooManyRounds}
+use Rattle.lts.specs.declared.Refusal.the-variants.{TooManyRounds}
+use Rattle.lts.specs.Rule.{Rule, _otherwise_, Nothing, First, broken, checked, Reply, refused, given, Decides}
+use Rattle.lts.specs.Rounds.{round}
 use Rattle.lts.specs.Game.{challengerWins}
-use Rattle.encoding.specs.declared.Header.{Header}
-use Rattle.encoding.specs.declared.Reading.{Reading}
-use Rattle.encoding.specs.declared.Reading.the-variants.{Readable, Refused as Unreadable}
-use Rattle.encoding.specs.Encoding.{readEncoding}
+use Rattle.encoding.specs.Records.{headerOf}
 use Rattle.encoding.specs.Denotation.{ltsOf}
-use Rattle.relation.specs.declared.Checked.{Checked}
-use Rattle.relation.specs.declared.Checked.the-variants.{Preorder, Refused as NoPreorder}
-use Rattle.relation.specs.Check.{checkPreorder}
 use Rattle.relation.specs.Matrix.{relationOf}
+use Rattle.inputs.specs.Inputs.{pairRules}
 use Rattle.game.specs.declared.Played.{Played}
 use Rattle.game.specs.declared.Played.the-variants.{Won, NotWon, Refused}
 
--- the answer a where a test passes, and otherwise the refusal
-unfoldable pub unless : Bool → Refusal → Played → Played
-unless test r a = cond test a (Refused r)
+-- the reply of each answer: whether the challenger wins
+unfoldable pub playReply : Played → Reply
+playReply Won = given (1 ∷ [])
+playReply NotWon = given (0 ∷ [])
+playReply (Refused r) = refused r
 
--- the answer a where the preorder passes its tests, and otherwise their refusal
-unfoldable pub onPreorder : Checked → Played → Played
-onPreorder Preorder a = a
-onPreorder (NoPreorder r) a = Refused r
+-- the sheet, the start and the pair (1 to 11), then the rounds (12)
+unfoldable pub playRules : List ℕ → List ℕ → ℕ → ℕ → ℕ → List Rule
+playRules s start p q rounds = pairRules s start p q ++ leb rounds 6 otherwise TooManyRounds ∷ []
 
--- the refusals 8 to 10, 11 and 12 of a readable encoding s with header h, or the game's result
-unfoldable pub playReadable : List ℕ → Header → List ℕ → ℕ → ℕ → ℕ → Played
-playReadable s h preorder p q rounds =
-    onPreorder (checkPreorder (h .states) preorder)
-    (unless (ltb p (h .states) && ltb q (h .states)) NoState
-    (unless (leb rounds 6) TooManyRounds
-    (cond (challengerWins (ltsOf s) (relationOf (h .states) preorder) rounds p q) Won NotWon)))
+-- hand play on a sheet and a start, from the pair (p, q)
+unfoldable pub playCall : List ℕ → List ℕ → ℕ → ℕ → ℕ → Reply
+playCall s start p q rounds =
+    checked (playRules s start p q rounds) refused
+    (given (cond (challengerWins (ltsOf s) (relationOf (headerOf s .states) start) rounds p q) 1 0 ∷ []))
 
-unfoldable pub playReading : Reading → List ℕ → List ℕ → ℕ → ℕ → ℕ → Played
-playReading (Unreadable r) s preorder p q rounds = Refused r
-playReading (Readable h) s preorder p q rounds = playReadable s h preorder p q rounds
-
--- hand play on an encoding s and a preorder, from the pair (p, q)
-unfoldable pub handPlay : List ℕ → List ℕ → ℕ → ℕ → ℕ → Played
-handPlay s preorder p q rounds = playReading (readEncoding s) s preorder p q rounds
+-- What is promised of the reply.
+pub record PlayPromise (s start : List ℕ) (p q rounds : ℕ) (reply : Reply) : Type 0 where
+  -- the refusal of the first broken rule
+  pub refuses : (r : Refusal) → broken (playRules s start p q rounds) ≡ First r → reply ≡ refused r
+  -- otherwise won exactly if the pair is not in W(rounds)
+  pub answers : broken (playRules s start p q rounds) ≡ Nothing
+      → Decides reply (T (not (round (ltsOf s) (relationOf (headerOf s .states) start) rounds p q))) []

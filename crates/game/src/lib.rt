@@ -6,7 +6,7 @@ ghost use Rattle.encoding.specs.Checked.{ReadableAs};
 ghost use Rattle.encoding.specs.Denotation.{ltsOf};
 ghost use Rattle.relation.specs.Matrix.{Matrix, relationOf};
 ghost use Rattle.game.specs.Memo.{system, wins, Playable, Right};
-ghost use Rattle.game.specs.Play.{playReadable, handPlay};
+ghost use Rattle.game.specs.Play.{playReply, playCall, PlayPromise};
 
 // What hand play answers.
 pub enum Played {
@@ -23,20 +23,20 @@ fn challenger(
     actions: &[u8; 1024],
     targets: &[u16; 1024],
     offsets: &[u16; 257],
-    preorder: &[u64],
+    start: &[u64],
     memo: &mut [u8],
     p: usize,
     q: usize,
     rounds: usize,
 ) -> bool
-    requires { ⌜ Playable n size (now sources) (now actions) (now targets) (now offsets) (now preorder) ⌝ }
-    requires { ⌜ Right (wins n size (now sources) (now actions) (now targets) (now preorder)) n (now memo) ⌝ }
+    requires { ⌜ Playable n size (now sources) (now actions) (now targets) (now offsets) (now start) ⌝ }
+    requires { ⌜ Right (wins n size (now sources) (now actions) (now targets) (now start)) n (now memo) ⌝ }
     requires { ⌜ (p < n) × (q < n) × (rounds ≤ 6) ⌝ }
-    ensures { λ r. ⌜ r ≡ wins n size (now (sources .entry)) (now (actions .entry)) (now (targets .entry)) (now (preorder .entry)) rounds p q ⌝ }
-    ensures { λ _. ⌜ Right (wins n size (now (sources .entry)) (now (actions .entry)) (now (targets .entry)) (now (preorder .entry))) n (now (memo .exit)) ⌝ }
+    ensures { λ r. ⌜ r ≡ wins n size (now (sources .entry)) (now (actions .entry)) (now (targets .entry)) (now (start .entry)) rounds p q ⌝ }
+    ensures { λ _. ⌜ Right (wins n size (now (sources .entry)) (now (actions .entry)) (now (targets .entry)) (now (start .entry))) n (now (memo .exit)) ⌝ }
 {
     let w = (n + 63) / 64;
-    if !relation::has(preorder, w, p, q) {
+    if !relation::has(start, w, p, q) {
         return true;
     }
     if rounds == 0 {
@@ -60,7 +60,7 @@ fn challenger(
             actions,
             targets,
             offsets,
-            preorder,
+            start,
             memo,
             actions[i],
             t,
@@ -85,18 +85,19 @@ fn defender(
     actions: &[u8; 1024],
     targets: &[u16; 1024],
     offsets: &[u16; 257],
-    preorder: &[u64],
+    start: &[u64],
     memo: &mut [u8],
     a: u8,
     t: usize,
     q: usize,
     rounds: usize,
 ) -> bool
-    requires { ⌜ Playable n size (now sources) (now actions) (now targets) (now offsets) (now preorder) ⌝ }
-    requires { ⌜ Right (wins n size (now sources) (now actions) (now targets) (now preorder)) n (now memo) ⌝ }
+    requires { ⌜ Playable n size (now sources) (now actions) (now targets) (now offsets) (now start) ⌝ }
+    requires { ⌜ Right (wins n size (now sources) (now actions) (now targets) (now start)) n (now memo) ⌝ }
     requires { ⌜ (t < n) × (q < n) × (0 < rounds) × (rounds ≤ 6) ⌝ }
-    ensures { λ r. ⌜ r ≡ defenderLoses (system n size (now (sources .entry)) (now (actions .entry)) (now (targets .entry))) (wins n size (now (sources .entry)) (now (actions .entry)) (now (targets .entry)) (now (preorder .entry)) (rounds - 1)) q a t ⌝ }
-    ensures { λ _. ⌜ Right (wins n size (now (sources .entry)) (now (actions .entry)) (now (targets .entry)) (now (preorder .entry))) n (now (memo .exit)) ⌝ }
+    ensures { λ r. ⌜ r ≡ defenderLoses (system n size (now (sources .entry)) (now (actions .entry)) (now (targets .entry)))
+        (wins n size (now (sources .entry)) (now (actions .entry)) (now (targets .entry)) (now (start .entry)) (rounds - 1)) q a t ⌝ }
+    ensures { λ _. ⌜ Right (wins n size (now (sources .entry)) (now (actions .entry)) (now (targets .entry)) (now (start .entry))) n (now (memo .exit)) ⌝ }
 {
     let end = offsets[q + 1] as usize;
     let mut j = offsets[q] as usize;
@@ -110,7 +111,7 @@ fn defender(
                 actions,
                 targets,
                 offsets,
-                preorder,
+                start,
                 memo,
                 t,
                 r,
@@ -132,14 +133,14 @@ fn wins_table(
     actions: &[u8; 1024],
     targets: &[u16; 1024],
     offsets: &[u16; 257],
-    preorder: &[u64],
+    start: &[u64],
     p: usize,
     q: usize,
     rounds: usize,
 ) -> bool
-    requires { ⌜ Playable n size (now sources) (now actions) (now targets) (now offsets) (now preorder) ⌝ }
+    requires { ⌜ Playable n size (now sources) (now actions) (now targets) (now offsets) (now start) ⌝ }
     requires { ⌜ (p < n) × (q < n) × (rounds ≤ 6) ⌝ }
-    ensures { λ r. ⌜ r ≡ wins n size (now (sources .entry)) (now (actions .entry)) (now (targets .entry)) (now (preorder .entry)) rounds p q ⌝ }
+    ensures { λ r. ⌜ r ≡ wins n size (now (sources .entry)) (now (actions .entry)) (now (targets .entry)) (now (start .entry)) rounds p q ⌝ }
 {
     let mut memo = [0u8; 393216];
     let cells = 6 * n * n;
@@ -150,7 +151,7 @@ fn wins_table(
         actions,
         targets,
         offsets,
-        preorder,
+        start,
         &mut memo[..cells],
         p,
         q,
@@ -162,13 +163,13 @@ fn wins_table(
 fn wins_readable(
     s: &[u8],
     h: encoding::Header,
-    preorder: &[u64],
+    start: &[u64],
     p: usize,
     q: usize,
     rounds: usize,
 ) -> bool
-    requires { ⌜ ReadableAs (now s) h × Matrix (h .states) (now preorder) × (p < h .states) × (q < h .states) × (rounds ≤ 6) ⌝ }
-    ensures { λ r. ⌜ r ≡ challengerWins (ltsOf (now (s .entry))) (relationOf (h .states) (now (preorder .entry))) rounds p q ⌝ }
+    requires { ⌜ ReadableAs (now s) h × Matrix (h .states) (now start) × (p < h .states) × (q < h .states) × (rounds ≤ 6) ⌝ }
+    ensures { λ r. ⌜ r ≡ challengerWins (ltsOf (now (s .entry))) (relationOf (h .states) (now (start .entry))) rounds p q ⌝ }
 {
     let mut marks = [0u8; 256];
     let mut offsets = [0u16; 257];
@@ -193,49 +194,29 @@ fn wins_readable(
         &actions,
         &targets,
         &offsets,
-        preorder,
+        start,
         p,
         q,
         rounds,
     )
 }
 
-// Hand play on a readable encoding.
-fn play_readable(
-    s: &[u8],
-    h: encoding::Header,
-    preorder: &[u64],
-    p: usize,
-    q: usize,
-    rounds: usize,
-) -> Played
-    requires { ⌜ ReadableAs (now s) h ⌝ }
-    ensures { λ r. ⌜ r ≡ playReadable (now (s .entry)) h (now (preorder .entry)) p q rounds ⌝ }
-{
-    let n = h.states;
-    let checked = relation::check_preorder(preorder, n);
-    if let relation::Checked::Refused(r) = checked {
-        return Played::Refused(r);
-    }
-    if !((p < n) & (q < n)) {
-        return Played::Refused(lts::Refusal::NoState);
-    }
-    if rounds > 6 {
-        return Played::Refused(lts::Refusal::TooManyRounds);
-    }
-    if wins_readable(s, h, preorder, p, q, rounds) {
-        return Played::Won;
-    }
-    Played::NotWon
-}
-
 // Hand play: whether the challenger wins from the pair (p, q) with `rounds` rounds.
-pub fn hand_play(s: &[u8], preorder: &[u64], p: usize, q: usize, rounds: usize) -> Played
-    ensures { λ r. ⌜ r ≡ handPlay (now (s .entry)) (now (preorder .entry)) p q rounds ⌝ }
+pub fn hand_play(s: &[u8], start: &[u64], p: usize, q: usize, rounds: usize) -> Played
+    ensures { λ r. ⌜ playCall (now (s .entry)) (now (start .entry)) p q rounds ≡ playReply r ⌝ }
+    ensures { λ r. ⌜ PlayPromise (now (s .entry)) (now (start .entry)) p q rounds (playReply r) ⌝ }
 {
-    let reading = encoding::read_encoding(s);
+    let reading = inputs::read_pair(s, start, p, q);
     match reading {
         encoding::Reading::Refused(r) => Played::Refused(r),
-        encoding::Reading::Readable(h) => play_readable(s, h, preorder, p, q, rounds),
+        encoding::Reading::Readable(h) => {
+            if rounds > 6 {
+                return Played::Refused(lts::Refusal::TooManyRounds);
+            }
+            if wins_readable(s, h, start, p, q, rounds) {
+                return Played::Won;
+            }
+            Played::NotWon
+        }
     }
 }

@@ -1,3 +1,5 @@
--- Laws that the proofs use, and computed cases.
-mod Laws
+-- What the proofs of several functions use, and computed cases.
+mod Texts
+mod Calls
+mod Bound
 mod Cases

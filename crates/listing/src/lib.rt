@@ -1,88 +1,116 @@
-// The lines that the program flowcheck prints (document 01, "Flows on each side"), written into a lent buffer.
+// The whole text that the program flowcheck prints for a sheet (document 01, "Flows on each side"), written into a lent buffer.
 ghost use mathlib.Core.Path.{_≡_};
-ghost use mathlib.Core.List.{_++_};
-ghost use Prim.Native.Nat.{_+_, _*_, _<_, _≤_};
-ghost use lib.ListN.{length};
-ghost use Rattle.lts.specs.Bounded.{concatBelow};
-ghost use Rattle.report.specs.Decimal.{decimal, written};
-ghost use Rattle.relation.specs.Matrix.{rowWords, relationOf};
-ghost use Rattle.listing.specs.Lines.{headLine, relatedText, stateLine, refusedLine};
+ghost use mathlib.Core.List.{[], _++_};
+ghost use Prim.Native.Nat.{_*_, _≤_};
+ghost use lib.ListN.{length, drop};
+ghost use Rattle.lts.specs.Refusal.{refusalNumber};
+ghost use Rattle.encoding.specs.Checked.{ReadableAs};
+ghost use Rattle.encoding.specs.Denotation.{ltsOf};
+ghost use Rattle.relation.specs.Matrix.{rowWords};
+ghost use Rattle.simulation.specs.Calls.{terminationCall};
+ghost use Rattle.coarsest.specs.Call.{coarsestReply, coarsestCall};
+ghost use Rattle.report.specs.Decimal.{written};
+ghost use Rattle.lines.specs.Lines.{refusedLine};
+ghost use Rattle.listing.specs.Call.{Fitting, Small, resultText};
+ghost use Rattle.listing.specs.Text.{systemText, flowText, Part};
 
-// Writes text and then x in decimal from `at` on, and returns the place after them.
-fn put_number(out: &mut [u8], at: usize, text: &[u8], x: usize) -> usize
-    requires { ⌜ (x < 100000) × (at + length (now text) + 5 ≤ length (now out)) ⌝ }
-    ensures { λ r. ⌜ r ≡ at + length (now (text .entry) ++ decimal x) ⌝ }
-    ensures { λ _. ⌜ now (out .exit) ≡ written at (now (text .entry) ++ decimal x) (now (out .entry)) ⌝ }
-    ensures { λ r. ⌜ r ≤ at + length (now (text .entry)) + 5 ⌝ }
+// Room for the longest text: a first line of at most 64 bytes, and 256 lines of at most 1,040.
+pub type Text = [u8; 266304];
+
+// Coarsest with the termination preorder (the end start) and an empty schedule.
+fn refine(
+    s: &[u8],
+    start: &mut [u64],
+    grid: &mut [u64],
+    representatives: &mut [u16],
+) -> coarsest::Answer
+    ensures { λ r. ⌜ coarsestCall (now (s .entry)) (terminationCall (now (s .entry)) (now (start .entry)) .grid) []
+        (now (grid .entry)) (now (representatives .entry))
+        ≡ record { reply = coarsestReply r; grid = now (grid .exit); representatives = now (representatives .exit) } ⌝ }
 {
-    let next = report::put_text(out, at, text);
-    report::put_decimal(out, next, x)
+    let schedule = [0u16; 0];
+    simulation::termination_preorder(s, start);
+    coarsest::coarsest(s, start, &schedule, grid, representatives)
 }
 
-// Writes the first line, and returns its length.
-pub fn put_head(out: &mut [u8], n: usize, steps: usize, pairs: usize, blocks: usize) -> usize
-    requires { ⌜ (n < 100000) × (steps < 100000) × (pairs < 100000) × (blocks < 100000) × (64 ≤ length (now out)) ⌝ }
-    ensures { λ r. ⌜ r ≡ length (headLine n steps pairs blocks) ⌝ }
-    ensures { λ _. ⌜ now (out .exit) ≡ written 0 (headLine n steps pairs blocks) (now (out .entry)) ⌝ }
-    ensures { λ r. ⌜ r ≤ length (now (out .entry)) ⌝ }
+// Writes the line of a refusal.
+fn put_refusal(out: &mut [u8], r: lts::Refusal) -> usize
+    requires { ⌜ 266304 ≤ length (now out) ⌝ }
+    ensures { λ size. ⌜ size ≡ length (refusedLine (refusalNumber r)) ⌝ }
+    ensures { λ _. ⌜ now (out .exit) ≡ written 0 (refusedLine (refusalNumber r)) (now (out .entry)) ⌝ }
 {
-    let a = put_number(out, 0, b"pages ", n);
-    let b = put_number(out, a, b" turns ", steps);
-    let c = put_number(out, b, b" kept ", pairs);
-    let d = put_number(out, c, b" classes ", blocks);
-    report::put_text(out, d, b"\n")
+    lines::put_refused(out, lts::refusal_number(r) as usize)
 }
 
-// Writes the line of a refusal, and returns its length.
-pub fn put_refused(out: &mut [u8], number: usize) -> usize
-    requires { ⌜ (number < 100000) × (64 ≤ length (now out)) ⌝ }
-    ensures { λ r. ⌜ r ≡ length (refusedLine number) ⌝ }
-    ensures { λ _. ⌜ now (out .exit) ≡ written 0 (refusedLine number) (now (out .entry)) ⌝ }
-    ensures { λ r. ⌜ r ≤ length (now (out .entry)) ⌝ }
+// Writes the text of a result.
+fn put_result(
+    out: &mut [u8],
+    n: usize,
+    c: coarsest::Counts,
+    grid: &[u64],
+    representatives: &[u16],
+) -> usize
+    requires { ⌜ (n ≤ 256) × Small c × (length (now grid) ≡ n * rowWords n) × (length (now representatives) ≡ n) × (266304 ≤ length (now out)) ⌝ }
+    ensures { λ size. ⌜ size ≡ length (resultText n c (now (grid .entry)) (now (representatives .entry))) ⌝ }
+    ensures { λ _. ⌜ now (out .exit) ≡ written 0 (resultText n c (now (grid .entry)) (now (representatives .entry))) (now (out .entry)) ⌝ }
 {
-    let a = put_number(out, 0, b"refused ", number);
-    report::put_text(out, a, b"\n")
+    let at = lines::put_head(out, n, c.steps, c.pairs, c.blocks);
+    lines::put_states(out, at, grid, representatives, n)
 }
 
-// Writes a blank and q, where p is related to q.
-fn put_related(out: &mut [u8], at: usize, grid: &[u64], n: usize, p: usize, q: usize) -> usize
-    requires { ⌜ (length (now grid) ≡ n * rowWords n) × (n ≤ 256) × (p < n) × (q < n) × (at + 6 ≤ length (now out)) ⌝ }
-    ensures { λ r. ⌜ r ≡ at + length (relatedText (relationOf n (now (grid .entry))) p q) ⌝ }
-    ensures { λ _. ⌜ now (out .exit) ≡ written at (relatedText (relationOf n (now (grid .entry))) p q) (now (out .entry)) ⌝ }
-    ensures { λ r. ⌜ r ≤ at + 4 ⌝ }
+// The text of a readable encoding, worked out in buffers of the right lengths: coarsest refuses nothing.
+fn put_in(
+    s: &[u8],
+    h: encoding::Header,
+    out: &mut [u8],
+    start: &mut [u64],
+    grid: &mut [u64],
+    representatives: &mut [u16],
+) -> usize
+    requires { ⌜ Fitting (now s) h (now start) (now grid) (now representatives) × (266304 ≤ length (now out)) ⌝ }
+    ensures { λ size. ⌜ size ≡ length (systemText (ltsOf (now (s .entry)))) ⌝ }
+    ensures { λ _. ⌜ now (out .exit) ≡ written 0 (systemText (ltsOf (now (s .entry)))) (now (out .entry)) ⌝ }
 {
+    let n = h.states;
+    let answer = refine(s, start, grid, representatives);
+    match answer {
+        coarsest::Answer::Refused(r) => put_refusal(out, r),
+        coarsest::Answer::Done(c) => put_result(out, n, c, grid, representatives),
+    }
+}
+
+// The text of a readable encoding.
+fn put_readable(s: &[u8], h: encoding::Header, out: &mut [u8]) -> usize
+    requires { ⌜ ReadableAs (now s) h × (266304 ≤ length (now out)) ⌝ }
+    ensures { λ size. ⌜ size ≡ length (systemText (ltsOf (now (s .entry)))) ⌝ }
+    ensures { λ _. ⌜ now (out .exit) ≡ written 0 (systemText (ltsOf (now (s .entry)))) (now (out .entry)) ⌝ }
+{
+    let n = h.states;
     let w = (n + 63) / 64;
-    if !relation::has(grid, w, p, q) {
-        return at;
-    }
-    put_number(out, at, b" ", q)
+    let size = n * w;
+    let mut start = [0u64; 1024];
+    let mut grid = [0u64; 1024];
+    let mut representatives = [0u16; 256];
+    put_in(
+        s,
+        h,
+        out,
+        &mut start[..size],
+        &mut grid[..size],
+        &mut representatives[..n],
+    )
 }
 
-// Writes the states that p is related to, ascending.
-fn put_row(out: &mut [u8], from: usize, grid: &[u64], n: usize, p: usize) -> usize
-    requires { ⌜ (length (now grid) ≡ n * rowWords n) × (n ≤ 256) × (p < n) × (from + 4 * n + 2 ≤ length (now out)) ⌝ }
-    ensures { λ r. ⌜ r ≡ from + length (concatBelow n (relatedText (relationOf n (now (grid .entry))) p)) ⌝ }
-    ensures { λ _. ⌜ now (out .exit) ≡ written from (concatBelow n (relatedText (relationOf n (now (grid .entry))) p)) (now (out .entry)) ⌝ }
-    ensures { λ r. ⌜ r ≤ from + 4 * n ⌝ }
+// Writes the text of a sheet, and returns its length; the bytes after it stay as they are. (The last line follows from the two before it,
+// and is what a caller asks of `&out[..size]`.)
+pub fn put_flow(s: &[u8], out: &mut Text) -> usize
+    ensures { λ size. ⌜ size ≡ length (flowText (now (s .entry))) ⌝ }
+    ensures { λ size. ⌜ now (out .exit) ≡ flowText (now (s .entry)) ++ drop size (now (out .entry)) ⌝ }
+    ensures { λ size. ⌜ Part size (now (out .exit)) (flowText (now (s .entry))) ⌝ }
 {
-    let mut at = from;
-    let mut q = 0;
-    while q < n {
-        at = put_related(out, at, grid, n, p, q);
-        q += 1;
+    let reading = encoding::read_encoding(s);
+    match reading {
+        encoding::Reading::Refused(r) => put_refusal(out, r),
+        encoding::Reading::Readable(h) => put_readable(s, h, out),
     }
-    at
-}
-
-// Writes the line of state p, and returns its length.
-pub fn put_state(out: &mut [u8], grid: &[u64], n: usize, name: usize, p: usize) -> usize
-    requires { ⌜ (length (now grid) ≡ n * rowWords n) × (n ≤ 256) × (p < n) × (name < 100000) × (1040 ≤ length (now out)) ⌝ }
-    ensures { λ r. ⌜ r ≡ length (stateLine n (relationOf n (now (grid .entry))) name p) ⌝ }
-    ensures { λ _. ⌜ now (out .exit) ≡ written 0 (stateLine n (relationOf n (now (grid .entry))) name p) (now (out .entry)) ⌝ }
-    ensures { λ r. ⌜ r ≤ length (now (out .entry)) ⌝ }
-{
-    let a = report::put_decimal(out, 0, p);
-    let b = put_number(out, a, b" ", name);
-    let c = put_row(out, b, grid, n, p);
-    report::put_text(out, c, b"\n")
 }

@@ -8,7 +8,7 @@ use Rattle.lts.specs.System.{Lts, allStates, anyState, allActions, anyAc
 use Rattle.lts.specs.Refinement.{run, step, stepOf, eachAction, chosen, pending, isRepresentative, representative, block, coarsest, initial, pairCount, blockCount, refine, split, prune, remove}
 use Rattle.lts.specs.Rounds.{round, refutedAt, refutationRound}
 use Rattle.lts.specs.declared.Entry.{Entry}
-use Rattle.lts.specs.Strategy.{holds, sound, allSound, accepted, entryAt, unanswered, entriesIn, entriesBefore, strategyAt, strategy, numbersOf, entriesOf}
+use Rattle.lts.specs.Strategy.{holds, sound, allSound, accepted, entryAt, unanswered, entriesIn, entriesBefore, strategyAt, strategy, entryNumbers, entriesOf}
 use Rattle.lts.specs.Game.{defenderLoses, challengerWins}
 
 -- the transitions of a list
@@ -60,11 +60,11 @@ wins k = challengerWins F3 (terminationPreorder F3) k 2 0
 -- and not e mod c, and with V not set would give other numbers for.
 cases : T
     (gives F1 [] 0 1 1 && gives F2 [] 0 4 1 && gives F3 [] 2 6 3 && gives F4 [] 3 10 4
-    && sameNumbers (numbersOf (strategy F3 (terminationPreorder F3) 2 0)) five && accepts five && not (accepts [])
+    && sameNumbers (entryNumbers (strategy F3 (terminationPreorder F3) 2 0)) five && accepts five && not (accepts [])
     && not (accepts (2 ∷ 0 ∷ 1 ∷ 2 ∷ [])) && accepts (2 ∷ 1 ∷ 1 ∷ 2 ∷ 2 ∷ 0 ∷ 1 ∷ 2 ∷ []) && not (accepts (2 ∷ 2 ∷ 1 ∷ 2 ∷ []))
     && not (wins 1) && wins 2
     && gives (system 4 1 3 ((0, 1, 2) ∷ (2, 1, 3) ∷ (3, 1, 1) ∷ [])) [] 5 7 4
     && gives (system 3 2 3 ((0, 2, 0) ∷ (0, 2, 2) ∷ (1, 1, 2) ∷ (2, 1, 0) ∷ [])) (5 ∷ []) 4 3 3
     && gives (system 2 1 2 ((1, 1, 1) ∷ [])) (5 ∷ []) 1 3 2)
-unfolding listed system gives sameNumbers five accepts wins F1 F2 F3 F4 anyBelow allBelow sumBelow countBelow passing concatBelow lowest restrict allStates anyState allActions anyAction into terminationPreorder answered run step stepOf eachAction chosen pending isRepresentative representative block coarsest initial pairCount blockCount refine split prune remove round refutedAt refutationRound holds sound allSound accepted entryAt unanswered entriesIn entriesBefore strategyAt strategy numbersOf entriesOf defenderLoses challengerWins xor
+unfolding listed system gives sameNumbers five accepts wins F1 F2 F3 F4 anyBelow allBelow sumBelow countBelow passing concatBelow lowest restrict allStates anyState allActions anyAction into terminationPreorder answered run step stepOf eachAction chosen pending isRepresentative representative block coarsest initial pairCount blockCount refine split prune remove round refutedAt refutationRound holds sound allSound accepted entryAt unanswered entriesIn entriesBefore strategyAt strategy entryNumbers entriesOf defenderLoses challengerWins xor
 cases = tt

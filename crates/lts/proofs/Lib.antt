@@ -4,6 +4,7 @@ pub mod System
 pub mod Step
 pub mod Count
 pub mod Run
+pub mod Schedule
 pub mod Rounds
 pub mod Game
 pub mod Strategy
@@ -12,3 +13,4 @@ pub mod Demand
 pub mod Cases
 pub mod Table
 pub mod Comparison
+pub mod Rule

@@ -12,7 +12,7 @@ use Rattle.lts.specs.Bounded.{_⇒_, anyBelow, countBelow, concatBelow, 
 use Rattle.lts.specs.System.{Rel, Lts, WellFormed, allStates, anyState, into, Relation, Simulation}
 use Rattle.lts.specs.Rounds.{round, refutedAt, refutationRound}
 use Rattle.lts.specs.declared.Entry.{Entry}
-use Rattle.lts.specs.Strategy.{holds, sound, allSound, unanswered, entryAt, entriesIn, entriesBefore, strategyAt, strategy, strategyLength, refutedCount, accepted, lastOf, entriesOf, numbersOf}
+use Rattle.lts.specs.Strategy.{holds, sound, allSound, unanswered, entryAt, entriesIn, entriesBefore, strategyAt, strategy, strategyLength, refutedCount, accepted, lastOf, entriesOf, entryNumbers}
 use Rattle.lts.proofs.Bounded.{and-iff, not-iff, imp-iff, dec, or-elim, or-left, or-right, below-suc, any-iff}
 use Rattle.lts.proofs.Count.{lowest-passes, sum-cong, length-concat}
 use Rattle.lts.proofs.System.{into-to, into-from, any-state-iff, all-state-iff}
@@ -372,7 +372,7 @@ module _ (L : Lts) (wf : WellFormed L) (preorder : Rel) where
   accepted-refutes S sim (e ∷ es) t = strategy-refutes S sim [] (e ∷ es) (λ p q u. absurd (holds-none p q u)) t _ _ (holds-last e es)
 
 -- entries that are carried as numbers come back
-pub entries-numbers : (es : List Entry) → entriesOf (numbersOf es) ≡ es
-unfolding entriesOf numbersOf
+pub entries-numbers : (es : List Entry) → entriesOf (entryNumbers es) ≡ es
+unfolding entriesOf entryNumbers
 entries-numbers [] = refl
 entries-numbers (e ∷ es) = ap (λ (l : List Entry). e ∷ l) (entries-numbers es)

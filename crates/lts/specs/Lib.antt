@@ -6,5 +6,6 @@ pub mod Strategy
 pub mod Game
 pub mod Union
 pub mod Refusal
+pub mod Rule
 pub mod Table
 pub mod Demand

@@ -12,9 +12,9 @@ use lib.Count.{trailingZeros}
 use lib.ListN.{length, getD, drop}
 use borrow.Author.Tests.{lt-ltb, le-ltb, eq-eqb, ne-eqb, eqb-true, not-true}
 use Rattle.relation.specs.Matrix.{bit, inRow, inMatrix, relationOf, rowWords, Matrix}
-use Rattle.relation.specs.Check.{includedBelow, withinBelow, reflexiveBelow, transitivePair, transitiveAt, transitiveBelow, clearAt, isMatrix, checkPreorder}
-use Rattle.relation.specs.declared.Checked.the-variants.{Preorder, Refused}
-use Rattle.lts.specs.declared.Refusal.the-variants.{Grid, NotReflexive, NotTransitive}
+use Rattle.relation.specs.Check.{includedBelow, withinBelow, reflexiveBelow, transitivePair, transitiveAt, transitiveBelow, clearAt, isMatrix, startRules}
+use Rattle.lts.specs.Rule.{Nothing, broken}
+use Rattle.lts.proofs.Rule.{kept}
 use Rattle.lts.specs.System.{Lts, allStates, reflexive, transitive}
 use Rattle.lts.specs.Bounded.{lowest, anyBelow, allBelow, _⇒_}
 use Rattle.relation.proofs.Bits.{word-ext, bit-of-zero, word-zero}
@@ -211,46 +211,20 @@ matrix-included n a b ok = bool-iff there back
         ∙ ⊎-elim (λ (h : q < n). all-at n _ (all-at n _ e p hp) q h)
         (λ (h : n ≤ q). ap (λ (t : Bool). t ⇒ relationOf n b p q) (ok .clear p q hp h (omega arith))) (lt-or-ge q n))
 
--- ---- the checks of a preorder
-
-zero-not-one : _≡_ {A = ℕ} 0 1 → ⊥
-zero-not-one z = omega arith
+-- ---- what a start that keeps the rules is
 
 module _ (n : ℕ) (g : List ℕ) where
-  pub check-grid : isMatrix n g ≡ false → Refused Grid ≡ checkPreorder n g
-  unfolding checkPreorder
-  check-grid e = rw e
+  passed : broken (startRules n g) ≡ Nothing → (isMatrix n g ≡ true) × (reflexiveBelow n (relationOf n g) ≡ true) × (transitiveBelow n (relationOf n g) ≡ true)
+  unfolding startRules
+  passed e = let a = kept _ _ _ e in let b = kept _ _ _ (a .1) in (a .0, b .0, kept _ _ _ (b .1) .0)
 
-  pub check-reflexive : isMatrix n g ≡ true → reflexiveBelow n (relationOf n g) ≡ false → Refused NotReflexive ≡ checkPreorder n g
-  unfolding checkPreorder
-  check-reflexive e f = rw (e, f)
-
-  pub check-transitive : isMatrix n g ≡ true → reflexiveBelow n (relationOf n g) ≡ true → transitiveBelow n (relationOf n g) ≡ false → Refused NotTransitive ≡ checkPreorder n g
-  unfolding checkPreorder
-  check-transitive e f h = rw (e, f, h)
-
-  pub check-passes : isMatrix n g ≡ true → reflexiveBelow n (relationOf n g) ≡ true → transitiveBelow n (relationOf n g) ≡ true → Preorder ≡ checkPreorder n g
-  unfolding checkPreorder
-  check-passes e f h = rw (e, f, h)
-
-  -- what a caller has from an answer that refuses nothing
-  passed : checkPreorder n g ≡ Preorder → (isMatrix n g ≡ true) × (reflexiveBelow n (relationOf n g) ≡ true) × (transitiveBelow n (relationOf n g) ≡ true)
-  unfolding checkPreorder
-  passed e = go (isMatrix n g) (reflexiveBelow n (relationOf n g)) (transitiveBelow n (relationOf n g)) e
-    where
-      go : (a b c : Bool) → cond a (cond b (cond c Preorder (Refused NotTransitive)) (Refused NotReflexive)) (Refused Grid) ≡ Preorder → (a ≡ true) × (b ≡ true) × (c ≡ true)
-      go true true true p = (refl, refl, refl)
-      go true true false p = let z : _≡_ {A = ℕ} 0 1 = cc in absurd (zero-not-one z)
-      go true false c p = let z : _≡_ {A = ℕ} 0 1 = cc in absurd (zero-not-one z)
-      go false b c p = let z : _≡_ {A = ℕ} 0 1 = cc in absurd (zero-not-one z)
-
-  pub checked-matrix : checkPreorder n g ≡ Preorder → Matrix n g
+  pub checked-matrix : broken (startRules n g) ≡ Nothing → Matrix n g
   checked-matrix e = matrix-test n g (passed e .0)
 
-  pub checked-reflexive : checkPreorder n g ≡ Preorder → (L : Lts) → L .states ≡ n → T (reflexive L (relationOf n g))
+  pub checked-reflexive : broken (startRules n g) ≡ Nothing → (L : Lts) → L .states ≡ n → T (reflexive L (relationOf n g))
   unfolding reflexive allStates reflexiveBelow
   checked-reflexive e L s = true-T _ (ap (λ (k : ℕ). allBelow k (λ p. relationOf n g p p)) s ∙ passed e .1)
 
-  pub checked-transitive : checkPreorder n g ≡ Preorder → (L : Lts) → L .states ≡ n → T (transitive L (relationOf n g))
+  pub checked-transitive : broken (startRules n g) ≡ Nothing → (L : Lts) → L .states ≡ n → T (transitive L (relationOf n g))
   unfolding transitive allStates transitiveBelow transitiveAt transitivePair
   checked-transitive e L s = true-T _ (ap (λ (k : ℕ). allBelow k (λ p. allBelow k (λ q. allBelow k (λ r. relationOf n g p q && relationOf n g q r ⇒ relationOf n g p r)))) s ∙ passed e .2)

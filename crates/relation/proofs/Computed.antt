@@ -4,11 +4,12 @@ use mathlib.Core.List.{List, [], _∷_}
 use Prim.Native.Nat.{ℕ}
 use lib.Dec.{leb}
 use Rattle.lts.specs.Bounded.{_⇒_, allBelow, sumBelow, countBelow, listBelow}
+use Rattle.lts.specs.Rule.{broken, checked, check}
 use Rattle.lts.specs.Table.{markedSet}
 use Rattle.lts.specs.declared.Refusal.the-variants.{Grid, NotReflexive, NotTransitive}
-use Rattle.relation.specs.declared.Checked.the-variants.{Preorder, Refused}
+use Rattle.lts.specs.declared.Checked.the-variants.{Passed, Refused}
 use Rattle.relation.specs.Matrix.{bit, wordOf, wordAt, inMatrix, matrixOf, relationOf, pairCount}
-use Rattle.relation.specs.Check.{isMatrix, reflexiveBelow, transitiveBelow, transitiveAt, transitivePair, checkPreorder}
+use Rattle.relation.specs.Check.{isMatrix, reflexiveBelow, transitiveBelow, transitiveAt, transitivePair, startRules}
 
 marks : List ℕ
 marks = 0 ∷ 1 ∷ 0 ∷ []
@@ -23,24 +24,24 @@ unfolding pairCount countBelow sumBelow inMatrix bit
 pairs = refl
 
 -- bit 3 is no state's; state 0 is not related to itself; 0 to 1 and 1 to 2, but not 0 to 2
-preorder : checkPreorder 3 (7 ∷ 2 ∷ 7 ∷ []) ≡ Preorder
-unfolding checkPreorder isMatrix reflexiveBelow transitiveBelow transitiveAt transitivePair allBelow inMatrix bit
+preorder : check (startRules 3 (7 ∷ 2 ∷ 7 ∷ [])) ≡ Passed
+unfolding check startRules broken checked isMatrix reflexiveBelow transitiveBelow transitiveAt transitivePair allBelow inMatrix bit
 preorder = refl
 
-stray : checkPreorder 3 (7 ∷ 2 ∷ 15 ∷ []) ≡ Refused Grid
-unfolding checkPreorder isMatrix reflexiveBelow transitiveBelow transitiveAt transitivePair allBelow inMatrix bit
+stray : check (startRules 3 (7 ∷ 2 ∷ 15 ∷ [])) ≡ Refused Grid
+unfolding check startRules broken checked isMatrix reflexiveBelow transitiveBelow transitiveAt transitivePair allBelow inMatrix bit
 stray = refl
 
-short : checkPreorder 3 (7 ∷ 2 ∷ []) ≡ Refused Grid
-unfolding checkPreorder isMatrix reflexiveBelow transitiveBelow transitiveAt transitivePair allBelow inMatrix bit
+short : check (startRules 3 (7 ∷ 2 ∷ [])) ≡ Refused Grid
+unfolding check startRules broken checked isMatrix reflexiveBelow transitiveBelow transitiveAt transitivePair allBelow inMatrix bit
 short = refl
 
-irreflexive : checkPreorder 3 (6 ∷ 2 ∷ 7 ∷ []) ≡ Refused NotReflexive
-unfolding checkPreorder isMatrix reflexiveBelow transitiveBelow transitiveAt transitivePair allBelow inMatrix bit
+irreflexive : check (startRules 3 (6 ∷ 2 ∷ 7 ∷ [])) ≡ Refused NotReflexive
+unfolding check startRules broken checked isMatrix reflexiveBelow transitiveBelow transitiveAt transitivePair allBelow inMatrix bit
 irreflexive = refl
 
-intransitive : checkPreorder 3 (3 ∷ 6 ∷ 4 ∷ []) ≡ Refused NotTransitive
-unfolding checkPreorder isMatrix reflexiveBelow transitiveBelow transitiveAt transitivePair allBelow inMatrix bit
+intransitive : check (startRules 3 (3 ∷ 6 ∷ 4 ∷ [])) ≡ Refused NotTransitive
+unfolding check startRules broken checked isMatrix reflexiveBelow transitiveBelow transitiveAt transitivePair allBelow inMatrix bit
 intransitive = refl
 
 -- two words a row

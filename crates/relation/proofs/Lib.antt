@@ -7,3 +7,4 @@ pub mod Checks
 pub mod Transitivity
 pub mod Termination
 pub mod Computed
+pub mod Starts

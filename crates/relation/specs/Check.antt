@@ -1,16 +1,14 @@
 -- Tests of matrices and of relations on the states below n (document 01, "Grids", and refusals 8 to 10).
-use mathlib.Core.Bool.{Bool, cond, not, _&&_, _||_}
-use mathlib.Core.List.{List}
+use mathlib.Core.Bool.{Bool, not, _&&_, _||_}
+use mathlib.Core.List.{List, [], _∷_}
 use Prim.Native.Nat.{ℕ, _*_}
 use lib.Dec.{eqb, ltb}
 use lib.ListN.{length}
 use Rattle.lts.specs.Bounded.{_⇒_, allBelow}
 use Rattle.lts.specs.System.{Set, Rel}
 use Rattle.lts.specs.Table.{markedSet}
-use Rattle.lts.specs.declared.Refusal.{Refusal}
+use Rattle.lts.specs.Rule.{Rule, _otherwise_}
 use Rattle.lts.specs.declared.Refusal.the-variants.{Grid, NotReflexive, NotTransitive}
-use Rattle.relation.specs.declared.Checked.{Checked}
-use Rattle.relation.specs.declared.Checked.the-variants.{Preorder, Refused}
 use Rattle.relation.specs.Matrix.{rowWords, relationOf}
 
 -- every member of A below k is in B
@@ -41,16 +39,13 @@ clearAt n g p = allBelow (rowWords n * 64) (λ q. ltb q n || not (relationOf n g
 unfoldable pub isMatrix : ℕ → List ℕ → Bool
 isMatrix n g = eqb (length g) (n * rowWords n) && allBelow n (clearAt n g)
 
--- The checks of a preorder (a start) in the order of document 01's table: 8, 9, 10.
-abbrev pub unless : Bool → Refusal → Checked → Checked
-unless test refusal rest = cond test rest (Refused refusal)
-
-unfoldable pub checkPreorder : ℕ → List ℕ → Checked
-checkPreorder n g =
-    unless (isMatrix n g) Grid (
-    unless (reflexiveBelow n (relationOf n g)) NotReflexive (
-    unless (transitiveBelow n (relationOf n g)) NotTransitive
-    Preorder))
+-- the rules of a start, in the order of document 01's table: 8, 9, 10
+unfoldable pub startRules : ℕ → List ℕ → List Rule
+startRules n g =
+    isMatrix n g otherwise Grid
+    ∷ reflexiveBelow n (relationOf n g) otherwise NotReflexive
+    ∷ transitiveBelow n (relationOf n g) otherwise NotTransitive
+    ∷ []
 
 -- what a state is related to by the termination preorder, by whether it is terminating itself
 abbrev pub terminationRow : ℕ → List ℕ → Bool → Set

@@ -6,9 +6,10 @@ ghost use Prim.Native.Nat.{ℕ, _+_, _*_, _/_, _%_, _<_, _≤_};
 ghost use lib.Dec.{eqb};
 ghost use lib.ListN.{length, drop};
 ghost use Rattle.lts.specs.Bounded.{_⇒_, anyBelow, countBelow, lowest};
+ghost use Rattle.lts.specs.Rule.{check};
 ghost use Rattle.lts.specs.Table.{markedSet};
 ghost use Rattle.relation.specs.Matrix.{digit, inRow, inMatrix, wordAt, rowOf, rowWords, statesBelow, matrixOf, relationOf, Matrix, Row, pairCount, setRow, withoutStates, Next};
-ghost use Rattle.relation.specs.Check.{includedBelow, withinBelow, reflexiveBelow, transitivePair, transitiveAt, transitiveBelow, clearAt, isMatrix, checkPreorder, terminationRow};
+ghost use Rattle.relation.specs.Check.{includedBelow, withinBelow, reflexiveBelow, transitivePair, transitiveAt, transitiveBelow, clearAt, isMatrix, startRules, terminationRow};
 ghost use Rattle.relation.specs.Tested.{Left};
 
 // Rows: a set of states in the first words of a slice.
@@ -417,27 +418,21 @@ fn is_transitive(grid: &[u64], n: usize) -> bool
     true
 }
 
-// What the test of a preorder says.
-pub enum Checked {
-    Preorder,
-    Refused(lts::Refusal),
-}
-
 // Whether the words are a matrix on n states, and a preorder: refusals 8, 9 and 10.
-pub fn check_preorder(grid: &[u64], n: usize) -> Checked
+pub fn check_preorder(grid: &[u64], n: usize) -> lts::Checked
     requires { ⌜ n ≤ 256 ⌝ }
-    ensures { λ r. ⌜ r ≡ checkPreorder n (now (grid .entry)) ⌝ }
+    ensures { λ r. ⌜ r ≡ check (startRules n (now (grid .entry))) ⌝ }
 {
     if !is_matrix(grid, n) {
-        return Checked::Refused(lts::Refusal::Grid);
+        return lts::Checked::Refused(lts::Refusal::Grid);
     }
     if !is_reflexive(grid, n) {
-        return Checked::Refused(lts::Refusal::NotReflexive);
+        return lts::Checked::Refused(lts::Refusal::NotReflexive);
     }
     if !is_transitive(grid, n) {
-        return Checked::Refused(lts::Refusal::NotTransitive);
+        return lts::Checked::Refused(lts::Refusal::NotTransitive);
     }
-    Checked::Preorder
+    lts::Checked::Passed
 }
 
 // Whether q is a state that a terminating state (`ended`), or one that is not, is related to, as 0 or 1.

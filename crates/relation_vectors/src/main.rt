@@ -9,8 +9,8 @@ fn put_termination(number: u64, s: &[u8], grid: &mut [u64])
     let answer = simulation::termination_preorder(s, grid);
     cases::begin_line(number, 2);
     match answer {
-        simulation::Termination::Written => cases::put_number(0),
-        simulation::Termination::Refused(r) => cases::put_number(lts::refusal_number(r)),
+        lts::Checked::Passed => cases::put_number(0),
+        lts::Checked::Refused(r) => cases::put_number(lts::refusal_number(r)),
     }
     cases::put_number(cases::checksum_words(grid));
     cases::end_line();

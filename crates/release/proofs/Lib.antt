@@ -1,8 +1,7 @@
--- What the proofs of several functions use.
-mod Bytes
-mod Terminations
-mod Runs
-mod Fronts
-mod Calls
-mod Compared
-mod Strategies
+pub mod Packing
+pub mod Replies
+pub mod Compared
+pub mod Plans
+pub mod EndStarts
+pub mod Exports
+pub mod Flows

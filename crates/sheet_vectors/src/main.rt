@@ -2,11 +2,11 @@
 
 // Writes normalise's line.
 fn put_normal(number: u64, s: &[u8], out: &mut [u8]) {
-    let answer = encoding::normalise(s, out);
+    let answer = normal_form::normalise(s, out);
     cases::begin_line(number, 1);
     match answer {
-        encoding::Normalised::Written => cases::put_number(0),
-        encoding::Normalised::Refused(r) => cases::put_number(lts::refusal_number(r)),
+        lts::Checked::Passed => cases::put_number(0),
+        lts::Checked::Refused(r) => cases::put_number(lts::refusal_number(r)),
     }
     cases::put_number(cases::checksum(out));
     cases::end_line();

@@ -1,8 +1,9 @@
--- What the calls answer, by what reading and checking answer. Assumes nothing.
+-- The system of an encoding is its table's; and what the calls answer, by what reading and testing answer.
 use mathlib.Core.Path.{_≡_, refl, sym, ap, ap₂, _∙_}
-use mathlib.Core.Bool.{true, false, _&&_}
-use mathlib.Core.List.{List}
+use mathlib.Core.Bool.{Bool, true, false, not, cond, _&&_}
+use mathlib.Core.List.{List, [], _∷_}
 use Prim.Native.Nat.{ℕ, _*_}
+use lib.Dec.{eqb}
 use lib.ListN.{length}
 use borrow.Author.Tests.{eq-eqb, ne-eqb}
 use Rattle.lts.specs.Bounded.{_⇒_}
@@ -10,20 +11,26 @@ use Rattle.lts.specs.System.{Set, Rel, Lts, allStates, anyState, allActions, in
 use Rattle.lts.specs.Table.{tableLts, withTerminating, markedSet}
 use Rattle.lts.specs.declared.Refusal.{Refusal}
 use Rattle.lts.specs.declared.Refusal.the-variants.{Grid, Buffer}
+use Rattle.lts.specs.declared.Checked.{Checked}
+use Rattle.lts.specs.declared.Checked.the-variants.{Passed, Refused as Unwritten}
+use Rattle.lts.specs.Rule.{_otherwise_, First, broken, given, checkedReply}
+use Rattle.lts.proofs.Rule.{stop, pass, done, first-part, second-part, refuses, passes}
 use Rattle.encoding.specs.declared.Header.{Header}
 use Rattle.encoding.specs.declared.Reading.the-variants.{Readable, Refused as Unreadable}
-use Rattle.encoding.specs.Encoding.{readEncoding}
+use Rattle.encoding.specs.Encoding.{sheetRules, readEncoding}
 use Rattle.encoding.specs.Denotation.{ltsOf}
-use Rattle.relation.specs.declared.Checked.the-variants.{Preorder, Refused as Unchecked}
+use Rattle.encoding.proofs.Reader.{sheet-broken, sheet-kept}
 use Rattle.relation.specs.Matrix.{rowWords, relationOf, matrixOf}
-use Rattle.relation.specs.Check.{withinBelow, isMatrix, checkPreorder}
+use Rattle.relation.specs.Check.{withinBelow, isMatrix}
 use Rattle.relation.proofs.Termination.{termination-of}
-use Rattle.simulation.specs.declared.Termination.the-variants.{Written, Refused as Unwritten}
+use Rattle.inputs.specs.Inputs.{inputRules, readInputs}
+use Rattle.inputs.proofs.Laws.{input-broken, input-kept}
 use Rattle.simulation.specs.declared.Tested.{Tested}
 use Rattle.simulation.specs.declared.Tested.the-variants.{Yes, No, Refused}
-use Rattle.simulation.specs.Calls.{terminationOutcome, terminationCall, isInside, claimOutcome, simulationOutcome, simulationCall}
+use Rattle.simulation.specs.Calls.{terminationRules, terminationCall, TerminationPromise, isInside, simulationReply, simulationRules, simulationCall, SimulationPromise}
+use Rattle.simulation.proofs.Promise.{termination-promised, simulation-promised}
 
--- ---- the system of an encoding is its table's, with the marked states terminating
+-- ## The system of an encoding is its table's, with the marked states terminating
 
 pub termination-table : (s marks : List ℕ) (n : ℕ) (L : Lts) → ltsOf s ≡ withTerminating (markedSet n marks) L
     → matrixOf n (λ p q. markedSet n marks p ⇒ markedSet n marks q) ≡ matrixOf n (terminationPreorder (ltsOf s))
@@ -34,60 +41,87 @@ simulation-with : (X : Set) (L : Lts) (R : Rel) → isSimulation (withTerminatin
 unfolding isSimulation within answered allStates allActions into anyState withTerminating
 simulation-with X L R = refl
 
-within-with : (X : Set) (n m k : ℕ) (sources actions targets : List ℕ) (R S : Rel) → within (withTerminating X (tableLts n m k sources actions targets)) R S ≡ withinBelow n R S
+within-with : (X : Set) (n m k : ℕ) (sources actions targets : List ℕ) (R S : Rel)
+    → within (withTerminating X (tableLts n m k sources actions targets)) R S ≡ withinBelow n R S
 unfolding within allStates withinBelow withTerminating tableLts
 within-with X n m k sources actions targets R S = refl
 
-pub inside-table : (s start claim : List ℕ) (X : Set) (n m k : ℕ) (sources actions targets : List ℕ)
+pub inside-table : (s : List ℕ) (start claim : Rel) (X : Set) (n m k : ℕ) (sources actions targets : List ℕ)
     → ltsOf s ≡ withTerminating X (tableLts n m k sources actions targets)
-    → isSimulation (tableLts n m k sources actions targets) (relationOf n claim) && withinBelow n (relationOf n claim) (relationOf n start) ≡ isInside s n start claim
+    → isSimulation (tableLts n m k sources actions targets) claim && withinBelow n claim start ≡ isInside (ltsOf s) start claim
 unfolding isInside
 inside-table s start claim X n m k sources actions targets e =
-    ap₂ _&&_ (sym (ap (λ (L : Lts). isSimulation L (relationOf n claim)) e ∙ simulation-with X (tableLts n m k sources actions targets) (relationOf n claim)))
-    (sym (ap (λ (L : Lts). within L (relationOf n claim) (relationOf n start)) e ∙ within-with X n m k sources actions targets (relationOf n claim) (relationOf n start)))
+    ap₂ _&&_ (sym (ap (λ (L : Lts). isSimulation L claim) e ∙ simulation-with X (tableLts n m k sources actions targets) claim))
+    (sym (ap (λ (L : Lts). within L claim start) e ∙ within-with X n m k sources actions targets claim start))
 
--- ---- the termination preorder
+-- ## The end start
+-- what it says of its answer r and of the words g that it leaves
+abbrev Writes : List ℕ → List ℕ → Checked → List ℕ → Type 0
+Writes s grid r g = (terminationCall s grid ≡ record { reply = checkedReply r; grid = g }) × TerminationPromise s grid (checkedReply r) g
 
 module _ (s grid : List ℕ) where
-  pub stopped : {r : Refusal} → readEncoding s ≡ Unreadable r → (Unwritten r ≡ terminationCall s grid .answer) × (grid ≡ terminationCall s grid .grid)
-  unfolding terminationCall terminationOutcome
-  stopped e = (rw e, rw e)
+  writes : (r : Checked) (g : List ℕ) → terminationCall s grid ≡ record { reply = checkedReply r; grid = g } → Writes s grid r g
+  writes r g e = (e, termination-promised s grid _ _ e)
+
+  refusing : {r : Refusal} → broken (terminationRules s grid) ≡ First r → Writes s grid (Unwritten r) grid
+  unfolding terminationCall checkedReply
+  refusing {r} e = writes (Unwritten r) grid (refuses (terminationRules s grid) _ _ e)
+
+  -- what is left of the rules where the sheet keeps its own
+  sized : {h : Header} → readEncoding s ≡ Readable h
+      → broken (terminationRules s grid) ≡ broken (eqb (length grid) (h .states * rowWords (h .states)) otherwise Buffer ∷ [])
+  unfolding terminationRules
+  sized e = let k = sheet-kept s e in rw (k .1) (second-part (sheetRules s) _ (k .0))
+
+  pub stopped : {r : Refusal} → readEncoding s ≡ Unreadable r → Writes s grid (Unwritten r) grid
+  unfolding terminationRules
+  stopped e = refusing (first-part (sheetRules s) _ (sheet-broken s e))
 
   pub misfit : {h : Header} → readEncoding s ≡ Readable h → (length grid ≡ h .states * rowWords (h .states) → ⊥)
-      → (Unwritten Buffer ≡ terminationCall s grid .answer) × (grid ≡ terminationCall s grid .grid)
-  unfolding terminationCall terminationOutcome
-  misfit {h} e n = let q = ne-eqb (length grid) (h .states * rowWords (h .states)) n in (rw (e, q), rw (e, q))
+      → Writes s grid (Unwritten Buffer) grid
+  misfit {h} e n = refusing (stop _ _ _ (sized e) (sym (ne-eqb (length grid) (h .states * rowWords (h .states)) n)) refl)
 
   pub written : {h : Header} {g : List ℕ} → readEncoding s ≡ Readable h → length grid ≡ h .states * rowWords (h .states)
-      → g ≡ matrixOf (h .states) (terminationPreorder (ltsOf s)) → (Written ≡ terminationCall s grid .answer) × (g ≡ terminationCall s grid .grid)
-  unfolding terminationCall terminationOutcome
-  written {h} e n w = let q = eq-eqb (length grid) (h .states * rowWords (h .states)) n in (rw (e, q), rw (e, q) w)
+      → g ≡ matrixOf (h .states) (terminationPreorder (ltsOf s)) → Writes s grid Passed g
+  unfolding terminationCall checkedReply
+  written {h} {g} e n w =
+      let kept = done (pass _ _ _ (sized e) (sym (eq-eqb (length grid) (h .states * rowWords (h .states)) n)) refl) in
+      writes Passed g (rw (w, sheet-kept s e .1) (passes (terminationRules s grid) _ _ kept))
 
--- ---- the test of a simulation
+-- ## Test simulation
+-- what it says of its answer r
+abbrev Tests : List ℕ → List ℕ → List ℕ → Tested → Type 0
+Tests s start claim r = (simulationCall s start claim ≡ simulationReply r) × SimulationPromise s start claim (simulationReply r)
+
+replied : (b : Bool) → given (cond b 1 0 ∷ []) ≡ simulationReply (cond b Yes No)
+unfolding simulationReply
+replied true = refl
+replied false = refl
 
 module _ (s start claim : List ℕ) where
-  pub unreadable : {r : Refusal} → readEncoding s ≡ Unreadable r → Refused r ≡ simulationCall s start claim
-  unfolding simulationCall simulationOutcome
-  unreadable e = rw e
+  tests : (r : Tested) → simulationCall s start claim ≡ simulationReply r → Tests s start claim r
+  tests r e = (e, simulation-promised s start claim (simulationReply r) e)
 
-  pub readable : {h : Header} {t : Tested} → readEncoding s ≡ Readable h
-      → t ≡ claimOutcome (checkPreorder (h .states) start) s (h .states) start claim → t ≡ simulationCall s start claim
-  unfolding simulationCall simulationOutcome
-  readable e f = rw e f
+  unanswered : {r : Refusal} → broken (simulationRules s start claim) ≡ First r → Tests s start claim (Refused r)
+  unfolding simulationCall simulationReply
+  unanswered {r} e = tests (Refused r) (refuses (simulationRules s start claim) _ _ e)
 
-  module _ (n : ℕ) where
-    pub unchecked : {r : Refusal} → checkPreorder n start ≡ Unchecked r → Refused r ≡ claimOutcome (checkPreorder n start) s n start claim
-    unfolding claimOutcome
-    unchecked e = rw e
+  -- what is left of the rules where the inputs keep theirs
+  claimed : {h : Header} → readInputs s start ≡ Readable h
+      → broken (simulationRules s start claim) ≡ broken (isMatrix (h .states) claim otherwise Grid ∷ [])
+  unfolding simulationRules
+  claimed e = let k = input-kept s start e in rw (k .1) (second-part (inputRules s start) _ (k .0))
 
-    pub no-matrix : checkPreorder n start ≡ Preorder → isMatrix n claim ≡ false → Refused Grid ≡ claimOutcome (checkPreorder n start) s n start claim
-    unfolding claimOutcome
-    no-matrix e f = rw (e, f)
+  pub unready : {r : Refusal} → readInputs s start ≡ Unreadable r → Tests s start claim (Refused r)
+  unfolding simulationRules
+  unready e = unanswered (first-part (inputRules s start) _ (input-broken s start e))
 
-    pub says-yes : checkPreorder n start ≡ Preorder → isMatrix n claim ≡ true → isInside s n start claim ≡ true → Yes ≡ claimOutcome (checkPreorder n start) s n start claim
-    unfolding claimOutcome
-    says-yes e f g = rw (e, f, g)
+  module _ {h : Header} (e : readInputs s start ≡ Readable h) {b : Bool} (t : b ≡ isMatrix (h .states) claim) where
+    pub no-matrix : not b ≡ true → Tests s start claim (Refused Grid)
+    no-matrix n = unanswered (stop _ _ _ (claimed e) t n)
 
-    pub says-no : checkPreorder n start ≡ Preorder → isMatrix n claim ≡ true → isInside s n start claim ≡ false → No ≡ claimOutcome (checkPreorder n start) s n start claim
-    unfolding claimOutcome
-    says-no e f g = rw (e, f, g)
+    pub tested : not b ≡ false → (y : Bool) → y ≡ isInside (ltsOf s) (relationOf (h .states) start) (relationOf (h .states) claim)
+        → Tests s start claim (cond y Yes No)
+    unfolding simulationCall
+    tested n y i = tests (cond y Yes No) (passes (simulationRules s start claim) _ _ (done (pass _ _ _ (claimed e) t n))
+        ∙ rw (← input-kept s start e .1, ← i) (replied y))

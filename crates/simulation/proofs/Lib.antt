@@ -1,3 +1,6 @@
 pub mod Tables
 pub mod Answers
+pub mod Starts
+pub mod Promise
 pub mod CallLaws
+pub mod Cases

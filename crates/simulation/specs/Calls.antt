@@ -1,53 +1,82 @@
--- The calls on encodings: end start and test simulation (document 01, "Grids" and the table of refusals).
+-- The calls end start and test simulation: what each replies and leaves in its buffer (document 01, "Grids" and the table of refusals), and
+-- what is promised of it.
+use Prim.Native.Nat.{ℕ, _*_, _<_}
+use mathlib.Core.Path.{_≡_}
+use mathlib.Core.Logic.{_↔_}
 use mathlib.Core.Bool.{Bool, cond, _&&_}
-use mathlib.Core.List.{List}
-use Prim.Native.Nat.{ℕ, _*_}
-use lib.Dec.{eqb}
+use mathlib.Core.List.{List, [], _∷_, _++_}
+use lib.Dec.{T, eqb}
 use lib.ListN.{length}
-use Rattle.lts.specs.System.{terminationPreorder, isSimulation, within}
+use Rattle.lts.specs.Bounded.{restrict}
+use Rattle.lts.specs.System.{Rel, Lts, terminationPreorder, isSimulation, within, Simulation}
+use Rattle.lts.specs.declared.Refusal.{Refusal}
 use Rattle.lts.specs.declared.Refusal.the-variants.{Grid, Buffer}
-use Rattle.encoding.specs.declared.Reading.{Reading}
-use Rattle.encoding.specs.declared.Reading.the-variants.{Readable, Refused as Unreadable}
-use Rattle.encoding.specs.Encoding.{readEncoding}
+use Rattle.lts.specs.Rule.{Rule, _otherwise_, Nothing, First, broken, checked, Reply, refused, given, Decides}
+use Rattle.encoding.specs.Records.{headerOf}
+use Rattle.encoding.specs.Encoding.{sheetRules}
 use Rattle.encoding.specs.Denotation.{ltsOf}
-use Rattle.relation.specs.declared.Checked.{Checked}
-use Rattle.relation.specs.declared.Checked.the-variants.{Preorder, Refused as Unchecked}
 use Rattle.relation.specs.Matrix.{rowWords, relationOf, matrixOf}
-use Rattle.relation.specs.Check.{isMatrix, checkPreorder}
-use Rattle.simulation.specs.declared.Termination.{Termination}
-use Rattle.simulation.specs.declared.Termination.the-variants.{Written, Refused as Unwritten}
+use Rattle.relation.specs.Check.{isMatrix, startRules}
+use Rattle.inputs.specs.Inputs.{inputRules}
 use Rattle.simulation.specs.declared.Tested.{Tested}
 use Rattle.simulation.specs.declared.Tested.the-variants.{Yes, No, Refused}
 
 -- ## The end start
-pub record Outcome : Type 0 where
-  pub answer : Termination
+-- the reply, and the lent buffer afterwards
+pub record TerminationOutcome : Type 0 where
+  pub reply : Reply
   pub grid : List ℕ
 
--- An encoding that is not readable (1 to 6) and a buffer of another length (15) leave the buffer as it is.
-unfoldable pub terminationOutcome : Reading → List ℕ → List ℕ → Outcome
-terminationOutcome (Unreadable r) s grid = record { answer = Unwritten r; grid = grid }
-terminationOutcome (Readable h) s grid =
-    cond (eqb (length grid) (h .states * rowWords (h .states)))
-    (record { answer = Written; grid = matrixOf (h .states) (terminationPreorder (ltsOf s)) })
-    (record { answer = Unwritten Buffer; grid = grid })
+-- the sheet first (1 to 6), then the buffer's length (15)
+unfoldable pub terminationRules : List ℕ → List ℕ → List Rule
+terminationRules s grid = let n = headerOf s .states in sheetRules s ++ eqb (length grid) (n * rowWords n) otherwise Buffer ∷ []
 
-unfoldable pub terminationCall : List ℕ → List ℕ → Outcome
-terminationCall s grid = terminationOutcome (readEncoding s) s grid
+-- a refusal leaves the buffer as it is
+unfoldable pub terminationCall : List ℕ → List ℕ → TerminationOutcome
+terminationCall s grid =
+    checked (terminationRules s grid)
+    (λ r. record { reply = refused r; grid = grid })
+    (record { reply = given []; grid = matrixOf (headerOf s .states) (terminationPreorder (ltsOf s)) })
+
+-- the grid is a start of the sheet, and holds (p, q) unless p has the end mark and q has not
+pub record EndStart (s grid : List ℕ) : Type 0 where
+  pub start : broken (startRules (headerOf s .states) grid) ≡ Nothing
+  pub holds : (p q : ℕ) → p < headerOf s .states → q < headerOf s .states
+      → T (relationOf (headerOf s .states) grid p q) ↔ (T (ltsOf s .terminating p) → T (ltsOf s .terminating q))
+
+-- What is promised of the reply and of the buffer that was grid₀ and is grid.
+pub record TerminationPromise (s grid₀ : List ℕ) (reply : Reply) (grid : List ℕ) : Type 0 where
+  -- the refusal of the first broken rule, and the buffer as it was
+  pub refuses : (r : Refusal) → broken (terminationRules s grid₀) ≡ First r → (reply ≡ refused r) × (grid ≡ grid₀)
+  -- otherwise the buffer holds the end start
+  pub answers : broken (terminationRules s grid₀) ≡ Nothing → (reply ≡ given []) × EndStart s grid
 
 -- ## Test simulation
+-- the reply of each answer: yes or no
+unfoldable pub simulationReply : Tested → Reply
+simulationReply Yes = given (1 ∷ [])
+simulationReply No = given (0 ∷ [])
+simulationReply (Refused r) = refused r
+
+-- the sheet (1 to 6), then the start (8 to 10), then the claim (8)
+unfoldable pub simulationRules : List ℕ → List ℕ → List ℕ → List Rule
+simulationRules s start claim = inputRules s start ++ isMatrix (headerOf s .states) claim otherwise Grid ∷ []
+
 -- the claim is a simulation and inside the start
-unfoldable pub isInside : List ℕ → ℕ → List ℕ → List ℕ → Bool
-isInside s n start claim = isSimulation (ltsOf s) (relationOf n claim) && within (ltsOf s) (relationOf n claim) (relationOf n start)
+unfoldable pub isInside : Lts → Rel → Rel → Bool
+isInside L start claim = isSimulation L claim && within L claim start
 
--- the encoding first (1 to 6), then the start (8 to 10), then the claim (8)
-unfoldable pub claimOutcome : Checked → List ℕ → ℕ → List ℕ → List ℕ → Tested
-claimOutcome (Unchecked r) s n start claim = Refused r
-claimOutcome Preorder s n start claim = cond (isMatrix n claim) (cond (isInside s n start claim) Yes No) (Refused Grid)
+unfoldable pub simulationCall : List ℕ → List ℕ → List ℕ → Reply
+simulationCall s start claim =
+    let n = headerOf s .states in
+    checked (simulationRules s start claim) refused (given (cond (isInside (ltsOf s) (relationOf n start) (relationOf n claim)) 1 0 ∷ []))
 
-unfoldable pub simulationOutcome : Reading → List ℕ → List ℕ → List ℕ → Tested
-simulationOutcome (Unreadable r) s start claim = Refused r
-simulationOutcome (Readable h) s start claim = claimOutcome (checkPreorder (h .states) start) s (h .states) start claim
-
-unfoldable pub simulationCall : List ℕ → List ℕ → List ℕ → Tested
-simulationCall s start claim = simulationOutcome (readEncoding s) s start claim
+-- What is promised of the reply.
+pub record SimulationPromise (s start claim : List ℕ) (reply : Reply) : Type 0 where
+  -- the refusal of the first broken rule
+  pub refuses : (r : Refusal) → broken (simulationRules s start claim) ≡ First r → reply ≡ refused r
+  -- otherwise yes exactly if the claim is a simulation inside the start: each move of a pair has an answer
+  pub answers : broken (simulationRules s start claim) ≡ Nothing
+      → Decides reply
+      (Simulation (ltsOf s) (relationOf (headerOf s .states) start)
+      (λ p q. T (restrict (headerOf s .states) (relationOf (headerOf s .states) claim) p q))) []

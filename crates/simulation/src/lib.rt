@@ -5,12 +5,13 @@ ghost use Prim.Native.Nat.{_+_, _*_, _<_, _≤_};
 ghost use lib.ListN.{length};
 ghost use Rattle.lts.specs.System.{into, isSimulation, terminationPreorder};
 ghost use Rattle.lts.specs.Table.{Table, tableLts};
+ghost use Rattle.lts.specs.Rule.{checkedReply};
 ghost use Rattle.encoding.specs.Checked.{ReadableAs};
 ghost use Rattle.encoding.specs.Denotation.{ltsOf};
 ghost use Rattle.relation.specs.Matrix.{inRow, rowOf, rowWords, relationOf, matrixOf, Matrix};
-ghost use Rattle.relation.specs.Check.{checkPreorder};
 ghost use Rattle.simulation.specs.Simulation.{enters, answeredAt};
-ghost use Rattle.simulation.specs.Calls.{terminationCall, isInside, claimOutcome, simulationCall};
+ghost use Rattle.simulation.specs.Calls.{terminationCall, TerminationPromise};
+ghost use Rattle.simulation.specs.Calls.{isInside, simulationReply, simulationCall, SimulationPromise};
 
 // Whether transition j is by action a into the set x.
 fn enters_set(
@@ -43,7 +44,8 @@ pub fn add_into(
     set: &mut [u64],
 )
     requires { ⌜ Table n m k (now sources) (now actions) (now targets) × (rowWords n ≤ length (now x)) × (rowWords n ≤ length (now set)) ⌝ }
-    ensures { λ _. ⌜ now (set .exit) ≡ rowOf (length (now (set .entry))) (λ q. inRow (now (set .entry)) q || into (tableLts n m k (now (sources .entry)) (now (actions .entry)) (now (targets .entry))) a (inRow (now (x .entry))) q) ⌝ }
+    ensures { λ _. let L = tableLts n m k (now (sources .entry)) (now (actions .entry)) (now (targets .entry)) in
+        ⌜ now (set .exit) ≡ rowOf (length (now (set .entry))) (λ q. inRow (now (set .entry)) q || into L a (inRow (now (x .entry))) q) ⌝ }
 {
     let mut j = 0;
     while j < k {
@@ -96,7 +98,8 @@ fn simulates(
     claim: &[u64],
 ) -> bool
     requires { ⌜ Table n m k (now sources) (now actions) (now targets) × Matrix n (now claim) ⌝ }
-    ensures { λ r. ⌜ r ≡ isSimulation (tableLts n m k (now (sources .entry)) (now (actions .entry)) (now (targets .entry))) (relationOf n (now (claim .entry))) ⌝ }
+    ensures { λ r. let L = tableLts n m k (now (sources .entry)) (now (actions .entry)) (now (targets .entry)) in
+        ⌜ r ≡ isSimulation L (relationOf n (now (claim .entry))) ⌝ }
 {
     let mut i = 0;
     while i < k {
@@ -106,12 +109,6 @@ fn simulates(
         i += 1;
     }
     true
-}
-
-// What writing the termination preorder answers.
-pub enum Termination {
-    Written,
-    Refused(lts::Refusal),
 }
 
 // What testing a simulation answers.
@@ -144,22 +141,22 @@ fn write_preorder(s: &[u8], h: encoding::Header, grid: &mut [u64])
     relation::write_termination(&marks, n, grid);
 }
 
-// Writes the termination preorder (the end start) of an encoding.
-pub fn termination_preorder(s: &[u8], grid: &mut [u64]) -> Termination
-    ensures { λ r. ⌜ r ≡ terminationCall (now (s .entry)) (now (grid .entry)) .answer ⌝ }
-    ensures { λ r. ⌜ now (grid .exit) ≡ terminationCall (now (s .entry)) (now (grid .entry)) .grid ⌝ }
+// End start: writes the termination preorder of an encoding.
+pub fn termination_preorder(s: &[u8], grid: &mut [u64]) -> lts::Checked
+    ensures { λ r. ⌜ terminationCall (now (s .entry)) (now (grid .entry)) ≡ record { reply = checkedReply r; grid = now (grid .exit) } ⌝ }
+    ensures { λ r. ⌜ TerminationPromise (now (s .entry)) (now (grid .entry)) (checkedReply r) (now (grid .exit)) ⌝ }
 {
     let reading = encoding::read_encoding(s);
     match reading {
-        encoding::Reading::Refused(r) => Termination::Refused(r),
+        encoding::Reading::Refused(r) => lts::Checked::Refused(r),
         encoding::Reading::Readable(h) => {
             let n = h.states;
             let w = (n + 63) / 64;
             if grid.len() != n * w {
-                return Termination::Refused(lts::Refusal::Buffer);
+                return lts::Checked::Refused(lts::Refusal::Buffer);
             }
             write_preorder(s, h, grid);
-            Termination::Written
+            lts::Checked::Passed
         }
     }
 }
@@ -167,7 +164,8 @@ pub fn termination_preorder(s: &[u8], grid: &mut [u64]) -> Termination
 // Whether the claim is a simulation of a readable encoding, inside the start.
 fn is_inside(s: &[u8], h: encoding::Header, start: &[u64], claim: &[u64]) -> bool
     requires { ⌜ ReadableAs (now s) h × Matrix (h .states) (now start) × Matrix (h .states) (now claim) ⌝ }
-    ensures { λ r. ⌜ r ≡ isInside (now (s .entry)) (h .states) (now (start .entry)) (now (claim .entry)) ⌝ }
+    ensures { λ r. let n = h .states in
+        ⌜ r ≡ isInside (ltsOf (now (s .entry))) (relationOf n (now (start .entry))) (relationOf n (now (claim .entry))) ⌝ }
 {
     let mut marks = [0u8; 256];
     let mut offsets = [0u16; 257];
@@ -190,16 +188,16 @@ fn is_inside(s: &[u8], h: encoding::Header, start: &[u64], claim: &[u64]) -> boo
         & relation::matrix_within(claim, start, n)
 }
 
-// The test of a claim, once the encoding is read.
-fn test_claim(s: &[u8], h: encoding::Header, start: &[u64], claim: &[u64]) -> Tested
-    requires { ⌜ ReadableAs (now s) h ⌝ }
-    ensures { λ r. ⌜ r ≡ claimOutcome (checkPreorder (h .states) (now (start .entry))) (now (s .entry)) (h .states) (now (start .entry)) (now (claim .entry)) ⌝ }
+// Test simulation: whether the claim is a simulation and inside the start.
+pub fn is_simulation(s: &[u8], start: &[u64], claim: &[u64]) -> Tested
+    ensures { λ r. ⌜ simulationCall (now (s .entry)) (now (start .entry)) (now (claim .entry)) ≡ simulationReply r ⌝ }
+    ensures { λ r. ⌜ SimulationPromise (now (s .entry)) (now (start .entry)) (now (claim .entry)) (simulationReply r) ⌝ }
 {
-    let n = h.states;
-    let checked = relation::check_preorder(start, n);
-    match checked {
-        relation::Checked::Refused(r) => Tested::Refused(r),
-        relation::Checked::Preorder => {
+    let reading = inputs::read_inputs(s, start);
+    match reading {
+        encoding::Reading::Refused(r) => Tested::Refused(r),
+        encoding::Reading::Readable(h) => {
+            let n = h.states;
             if !relation::is_matrix(claim, n) {
                 return Tested::Refused(lts::Refusal::Grid);
             }
@@ -208,16 +206,5 @@ fn test_claim(s: &[u8], h: encoding::Header, start: &[u64], claim: &[u64]) -> Te
             }
             Tested::No
         }
-    }
-}
-
-// Test simulation: whether the claim is a simulation and inside the start.
-pub fn is_simulation(s: &[u8], start: &[u64], claim: &[u64]) -> Tested
-    ensures { λ r. ⌜ r ≡ simulationCall (now (s .entry)) (now (start .entry)) (now (claim .entry)) ⌝ }
-{
-    let reading = encoding::read_encoding(s);
-    match reading {
-        encoding::Reading::Refused(r) => Tested::Refused(r),
-        encoding::Reading::Readable(h) => test_claim(s, h, start, claim),
     }
 }

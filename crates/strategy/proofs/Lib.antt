@@ -2,3 +2,4 @@ pub mod Checks
 pub mod Sorted
 pub mod Writes
 pub mod Promise
+mod Cases

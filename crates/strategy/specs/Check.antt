@@ -1,46 +1,57 @@
--- What the check of a strategy answers (document 01, "Check plan" and the table of refusals).
-use Prim.Native.Nat.{ℕ}
+-- The call check plan: its reply (document 01, "Plans" and the table of refusals), and what is promised of it. A plan is a list of entries,
+-- however it is carried: as numbers, as structs or as bytes.
+use Prim.Native.Nat.{ℕ, _<_}
 use mathlib.Core.Path.{_≡_}
-use mathlib.Core.Bool.{Bool, cond}
-use mathlib.Core.List.{List}
+use mathlib.Core.Logic.{_↔_}
+use mathlib.Core.Bool.{not}
+use mathlib.Core.List.{List, [], _∷_, _++_}
+use lib.Dec.{T}
+use Rattle.lts.specs.declared.Entry.{Entry}
 use Rattle.lts.specs.declared.Refusal.{Refusal}
 use Rattle.lts.specs.declared.Refusal.the-variants.{Unsound}
-use Rattle.lts.specs.Strategy.{accepted, entriesOf, lastOf}
-use Rattle.encoding.specs.declared.Header.{Header}
-use Rattle.encoding.specs.declared.Reading.{Reading}
-use Rattle.encoding.specs.declared.Reading.the-variants.{Readable, Refused as Unreadable}
-use Rattle.encoding.specs.Encoding.{readEncoding}
+use Rattle.lts.specs.System.{Rel}
+use Rattle.lts.specs.Refinement.{coarsest}
+use Rattle.lts.specs.Strategy.{accepted, lastOf}
+use Rattle.lts.specs.Rule.{Rule, _otherwise_, Nothing, First, broken, checked, Reply, refused, given}
+use Rattle.encoding.specs.Records.{headerOf}
 use Rattle.encoding.specs.Denotation.{ltsOf}
-use Rattle.relation.specs.declared.Checked.{Checked}
-use Rattle.relation.specs.declared.Checked.the-variants.{Preorder, Refused as NoPreorder}
-use Rattle.relation.specs.Check.{checkPreorder}
 use Rattle.relation.specs.Matrix.{relationOf}
+use Rattle.inputs.specs.Inputs.{inputRules}
 use Rattle.strategy.specs.declared.Verdict.{Verdict}
 use Rattle.strategy.specs.declared.Verdict.the-variants.{Last, Refused}
-use Rattle.strategy.specs.declared.Pair.{Pair}
 
--- the pair of the last entry that the numbers carry
-pub record LastPair (numbers : List ℕ) (r : Pair) : Type 0 where
-  pub first : r .first ≡ lastOf (entriesOf numbers) .p
-  pub second : r .second ≡ lastOf (entriesOf numbers) .q
+-- the reply of each answer: the last entry's pair
+unfoldable pub checkReply : Verdict → Reply
+checkReply (Last p q) = given (p ∷ q ∷ [])
+checkReply (Refused r) = refused r
 
--- the answer a where the preorder passes its tests, and otherwise their refusal
-unfoldable pub onPreorder : Checked → Verdict → Verdict
-onPreorder Preorder a = a
-onPreorder (NoPreorder r) a = Refused r
+-- the start that the words hold, on the sheet's states; and the pairs that coarsest keeps from it, with this turn list
+abbrev pub startOf : List ℕ → List ℕ → Rel
+startOf s start = relationOf (headerOf s .states) start
 
--- the refusals 8 to 10 and 14 of a readable encoding s with header h, or the last pair
-unfoldable pub checkReadable : List ℕ → Header → List ℕ → List ℕ → Verdict
-checkReadable s h preorder numbers =
-    onPreorder (checkPreorder (h .states) preorder)
-    (cond (accepted (ltsOf s) (relationOf (h .states) preorder) (entriesOf numbers))
-    (Last (lastOf (entriesOf numbers) .p) (lastOf (entriesOf numbers) .q))
-    (Refused Unsound))
+abbrev pub keptPairs : List ℕ → List ℕ → List ℕ → Rel
+keptPairs s start schedule = coarsest (ltsOf s) (startOf s start) schedule .final .related
 
-unfoldable pub checkReading : Reading → List ℕ → List ℕ → List ℕ → Verdict
-checkReading (Unreadable r) s preorder numbers = Refused r
-checkReading (Readable h) s preorder numbers = checkReadable s h preorder numbers
+-- the sheet and the start (1 to 10), then the entries (14)
+unfoldable pub checkRules : List ℕ → List ℕ → List Entry → List Rule
+checkRules s start entries = inputRules s start ++ accepted (ltsOf s) (startOf s start) entries otherwise Unsound ∷ []
 
--- the check of the strategy that the numbers carry, on an encoding s and a preorder
-unfoldable pub checkStrategy : List ℕ → List ℕ → List ℕ → Verdict
-checkStrategy s preorder numbers = checkReading (readEncoding s) s preorder numbers
+unfoldable pub checkCall : List ℕ → List ℕ → List Entry → Reply
+checkCall s start entries = checked (checkRules s start entries) refused (given (lastOf entries .p ∷ lastOf entries .q ∷ []))
+
+-- The entries are a non-empty list of sound ones; the reply is their last pair, and no turn list keeps that pair.
+pub record Accepts (s start : List ℕ) (entries : List Entry) (reply : Reply) : Type 0 where
+  pub sound : T (accepted (ltsOf s) (startOf s start) entries)
+  pub replied : reply ≡ given (lastOf entries .p ∷ lastOf entries .q ∷ [])
+  pub first : lastOf entries .p < headerOf s .states
+  pub second : lastOf entries .q < headerOf s .states
+  pub dropped : (schedule : List ℕ) → T (not (keptPairs s start schedule (lastOf entries .p) (lastOf entries .q)))
+
+-- What is promised of the reply.
+pub record CheckPromise (s start : List ℕ) (entries : List Entry) (reply : Reply) : Type 0 where
+  -- the refusal of the first broken rule
+  pub refuses : (r : Refusal) → broken (checkRules s start entries) ≡ First r → reply ≡ refused r
+  -- on a sheet and a start: 14 exactly for the lists that are empty or have an unsound entry
+  pub unsound : broken (inputRules s start) ≡ Nothing → (reply .refusal ≡ 14) ↔ T (not (accepted (ltsOf s) (startOf s start) entries))
+  -- otherwise the last pair, which is dropped
+  pub answers : broken (checkRules s start entries) ≡ Nothing → Accepts s start entries reply

@@ -1,3 +1,3 @@
 pub mod Check
 pub mod Write
-pub mod Demand
+pub mod Steps

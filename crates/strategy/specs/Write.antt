@@ -1,61 +1,78 @@
--- What writing a strategy answers and leaves in its buffer (document 01, "Write plan" and the table of refusals).
-use Prim.Native.Nat.{ℕ, _*_, _/_}
-use mathlib.Core.Bool.{Bool, cond, _&&_}
-use mathlib.Core.List.{List, _++_}
-use lib.Dec.{ltb, leb}
-use lib.ListN.{length, drop}
+-- The call write plan: what it replies and leaves in its buffer (document 01, "Plans" and the table of refusals), and what is promised of
+-- it. The buffer's elements are numbers, entries or bytes; an entry takes `width` of them.
+use Prim.Native.Nat.{ℕ, _*_, _/_, _<_}
+use mathlib.Core.Path.{_≡_}
+use mathlib.Core.Logic.{_↔_}
+use mathlib.Core.Bool.{not}
+use mathlib.Core.List.{List, [], _∷_, _++_}
+use lib.Dec.{T, leb}
+use lib.ListN.{length, take, drop}
+use Rattle.lts.specs.declared.Entry.{Entry}
 use Rattle.lts.specs.declared.Refusal.{Refusal}
-use Rattle.lts.specs.declared.Refusal.the-variants.{NoState, StillRelated, Buffer}
-use Rattle.lts.specs.System.{Rel, Lts}
+use Rattle.lts.specs.declared.Refusal.the-variants.{StillRelated, Buffer}
 use Rattle.lts.specs.Rounds.{refutationRound}
-use Rattle.lts.specs.Strategy.{numbersOf, strategy, strategyLength}
-use Rattle.encoding.specs.declared.Header.{Header}
-use Rattle.encoding.specs.declared.Reading.{Reading}
-use Rattle.encoding.specs.declared.Reading.the-variants.{Readable, Refused as Unreadable}
-use Rattle.encoding.specs.Encoding.{readEncoding}
+use Rattle.lts.specs.Strategy.{strategy, strategyLength}
+use Rattle.lts.specs.Rule.{Rule, _otherwise_, Nothing, First, broken, checked, Reply, refused, given}
+use Rattle.encoding.specs.Records.{headerOf}
 use Rattle.encoding.specs.Denotation.{ltsOf}
-use Rattle.relation.specs.declared.Checked.{Checked}
-use Rattle.relation.specs.declared.Checked.the-variants.{Preorder, Refused as NoPreorder}
-use Rattle.relation.specs.Check.{checkPreorder}
-use Rattle.relation.specs.Matrix.{relationOf}
+use Rattle.inputs.specs.Inputs.{pairRules}
 use Rattle.strategy.specs.declared.Written.{Written}
 use Rattle.strategy.specs.declared.Written.the-variants.{Entries, Refused}
+use Rattle.strategy.specs.Check.{startOf, keptPairs, checkCall}
 
--- the answer, and the lent numbers afterwards
-pub record Outcome : Type 0 where
-  pub answer : Written
-  pub numbers : List ℕ
+-- the reply of each answer: the number of entries
+unfoldable pub writeReply : Written → Reply
+writeReply (Entries count) = given (count ∷ [])
+writeReply (Refused r) = refused r
 
--- a refusal leaves the numbers d as they are
-unfoldable pub refuse : List ℕ → Refusal → Outcome
-refuse d r = record { answer = Refused r; numbers = d }
+-- the reply, and the lent buffer afterwards
+pub record WriteOutcome (A : Type 0) : Type 0 where
+  pub reply : Reply
+  pub plan : List A
 
-unfoldable pub unless : List ℕ → Bool → Refusal → Outcome → Outcome
-unless d test r a = cond test a (refuse d r)
+-- the plan that is written for (p, q), and how many entries it has
+abbrev pub planOf : List ℕ → List ℕ → ℕ → ℕ → List Entry
+planOf s start p q = strategy (ltsOf s) (startOf s start) p q
 
-unfoldable pub onPreorder : List ℕ → Checked → Outcome → Outcome
-onPreorder d Preorder a = a
-onPreorder d (NoPreorder r) a = refuse d r
+abbrev pub planLength : List ℕ → List ℕ → ℕ → ℕ → ℕ
+planLength s start p q = strategyLength (ltsOf s) (startOf s start) p q
 
--- The refusals 13 (the pair falls at no round: n * n + 1 stands for its round) and 15, or the strategy of (p, q) and its number of
--- entries. Later numbers stay.
-unfoldable pub writeOn : Lts → Rel → ℕ → ℕ → List ℕ → Outcome
-writeOn L preorder p q d =
-    unless d (leb (refutationRound L preorder p q) (L .states * L .states)) StillRelated
-    (unless d (leb (strategyLength L preorder p q) (length d / 4)) Buffer
-    (record { answer = Entries (strategyLength L preorder p q); numbers = numbersOf (strategy L preorder p q) ++ drop (4 * strategyLength L preorder p q) d }))
+-- The sheet, the start and the pair (1 to 11); then the pair falls at some round (13: n * n + 1 stands for the round of one that does
+-- not), and the buffer has room for the plan's entries (15).
+unfoldable pub writeRules : List ℕ → List ℕ → ℕ → ℕ → ℕ → List Rule
+writeRules s start p q room =
+    let n = headerOf s .states in
+    pairRules s start p q
+    ++ leb (refutationRound (ltsOf s) (startOf s start) p q) (n * n) otherwise StillRelated
+    ∷ leb (planLength s start p q) room otherwise Buffer
+    ∷ []
 
--- the refusals 8 to 10 and 11 of a readable encoding s with header h first
-unfoldable pub writeReadable : List ℕ → Header → List ℕ → ℕ → ℕ → List ℕ → Outcome
-writeReadable s h preorder p q d =
-    onPreorder d (checkPreorder (h .states) preorder)
-    (unless d (ltb p (h .states) && ltb q (h .states)) NoState
-    (writeOn (ltsOf s) (relationOf (h .states) preorder) p q d))
+-- `carried` gives the elements that carry entries. A refusal leaves the buffer, and what is past the plan's entries stays.
+unfoldable pub writeCall : {A : Type 0} → (List Entry → List A) → ℕ → List ℕ → List ℕ → ℕ → ℕ → List A → WriteOutcome A
+writeCall carried width s start p q plan =
+    checked (writeRules s start p q (length plan / width))
+    (λ r. record { reply = refused r; plan = plan })
+    (record {
+      reply = given (planLength s start p q ∷ []);
+      plan = carried (planOf s start p q) ++ drop (width * planLength s start p q) plan;
+    })
 
-unfoldable pub writeReading : Reading → List ℕ → List ℕ → ℕ → ℕ → List ℕ → Outcome
-writeReading (Unreadable r) s preorder p q d = refuse d r
-writeReading (Readable h) s preorder p q d = writeReadable s h preorder p q d
+-- The buffer begins with so many entries as the reply says: check plan accepts them and answers (p, q). What is past them stays.
+pub record Writes {A : Type 0} (entriesIn : List A → List Entry) (width : ℕ) (s start : List ℕ) (p q : ℕ) (plan₀ : List A) (reply : Reply) (plan : List A) : Type 0 where
+  pub replied : reply ≡ given (planLength s start p q ∷ [])
+  pub accepted : checkCall s start (take (planLength s start p q) (entriesIn plan)) ≡ given (p ∷ q ∷ [])
+  pub written : take (planLength s start p q) (entriesIn plan) ≡ planOf s start p q
+  pub stays : drop (width * planLength s start p q) plan ≡ drop (width * planLength s start p q) plan₀
+  pub long : length plan ≡ length plan₀
 
--- the strategy of (p, q) on an encoding s and a preorder, written into the numbers d
-unfoldable pub writeStrategy : List ℕ → List ℕ → ℕ → ℕ → List ℕ → Outcome
-writeStrategy s preorder p q d = writeReading (readEncoding s) s preorder p q d
+-- What is promised of the reply and of the buffer that was plan₀ and is plan, where `entriesIn` gives the entries that elements carry.
+pub record WritePromise {A : Type 0} (entriesIn : List A → List Entry) (width : ℕ) (s start : List ℕ) (p q : ℕ) (plan₀ : List A) (reply : Reply) (plan : List A) : Type 0 where
+  -- the refusal of the first broken rule, and the buffer as it was
+  pub refuses : (r : Refusal) → broken (writeRules s start p q (length plan₀ / width)) ≡ First r → (reply ≡ refused r) × (plan ≡ plan₀)
+  -- on a sheet, a start and a pair of states: 13 exactly for a kept pair, whatever the turn list; for a dropped one 15 exactly where its
+  -- plan has more entries than there is room for
+  pub related : broken (pairRules s start p q) ≡ Nothing → (schedule : List ℕ) → (reply .refusal ≡ 13) ↔ T (keptPairs s start schedule p q)
+  pub short : broken (pairRules s start p q) ≡ Nothing → (schedule : List ℕ) → T (not (keptPairs s start schedule p q))
+      → (reply .refusal ≡ 15) ↔ (length plan₀ / width < planLength s start p q)
+  -- otherwise the plan is written
+  pub answers : broken (writeRules s start p q (length plan₀ / width)) ≡ Nothing → Writes entriesIn width s start p q plan₀ reply plan

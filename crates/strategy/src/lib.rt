@@ -1,16 +1,16 @@
-// Strategies of the challenger (document 01, "Plans") as calls on an encoding, a preorder and a slice of 16-bit numbers.
+// Strategies of the challenger (document 01, "Plans") as calls on a sheet, a start and a slice of 16-bit numbers.
 ghost use mathlib.Core.Path.{_≡_};
-ghost use Prim.Native.Nat.{ℕ, _≤_, _<_};
+ghost use Prim.Native.Nat.{_≤_, _<_};
 ghost use lib.ListN.{length};
-ghost use Rattle.lts.specs.Strategy.{accepted, entriesOf};
+ghost use Rattle.lts.specs.Strategy.{accepted, entriesOf, entryNumbers};
 ghost use Rattle.lts.specs.Table.{tableLts};
-ghost use Rattle.encoding.specs.Checked.{ReadableAs};
 ghost use Rattle.encoding.specs.Denotation.{ltsOf};
 ghost use Rattle.relation.specs.Matrix.{relationOf, Matrix};
-ghost use Rattle.strategy.specs.Demand.{Promised};
-ghost use Rattle.strategy.specs.Check.{LastPair, checkReadable, checkStrategy};
+ghost use Rattle.inputs.specs.Inputs.{Ready};
 ghost use Rattle.strategy_write.specs.Writing.{Sorted};
-ghost use Rattle.strategy.specs.Write.{writeOn, writeReadable, writeStrategy};
+ghost use Rattle.strategy.specs.Check.{checkReply, checkCall, CheckPromise};
+ghost use Rattle.strategy.specs.Write.{writeReply, writeCall, WritePromise};
+ghost use Rattle.strategy.specs.Steps.{LastPair, writeOn};
 
 // What the check of a strategy answers: the last entry's pair.
 pub enum Verdict {
@@ -41,10 +41,10 @@ fn last_pair(numbers: &[u16]) -> Pair
     }
 }
 
-// Whether the strategy is accepted, on a readable encoding.
-fn accepted_readable(s: &[u8], h: encoding::Header, preorder: &[u64], numbers: &[u16]) -> bool
-    requires { ⌜ ReadableAs (now s) h × Matrix (h .states) (now preorder) ⌝ }
-    ensures { λ r. ⌜ r ≡ accepted (ltsOf (now (s .entry))) (relationOf (h .states) (now (preorder .entry))) (entriesOf (now (numbers .entry))) ⌝ }
+// Whether the strategy is accepted, on a sheet and a start that were read.
+fn accepted_readable(s: &[u8], h: encoding::Header, start: &[u64], numbers: &[u16]) -> bool
+    requires { ⌜ Ready (now s) h (now start) ⌝ }
+    ensures { λ r. ⌜ r ≡ accepted (ltsOf (now (s .entry))) (relationOf (h .states) (now (start .entry))) (entriesOf (now (numbers .entry))) ⌝ }
 {
     let mut marks = [0u8; 256];
     let mut offsets = [0u16; 257];
@@ -71,37 +71,26 @@ fn accepted_readable(s: &[u8], h: encoding::Header, preorder: &[u64], numbers: &
         &actions,
         &targets,
         &offsets,
-        preorder,
+        start,
         numbers,
     )
 }
 
-// The check on a readable encoding.
-fn check_readable(s: &[u8], h: encoding::Header, preorder: &[u64], numbers: &[u16]) -> Verdict
-    requires { ⌜ ReadableAs (now s) h ⌝ }
-    ensures { λ r. ⌜ r ≡ checkReadable (now (s .entry)) h (now (preorder .entry)) (now (numbers .entry)) ⌝ }
-{
-    let n = h.states;
-    let checked = relation::check_preorder(preorder, n);
-    if let relation::Checked::Refused(r) = checked {
-        return Verdict::Refused(r);
-    }
-    if !accepted_readable(s, h, preorder, numbers) {
-        return Verdict::Refused(lts::Refusal::Unsound);
-    }
-    let pair = last_pair(numbers);
-    Verdict::Last(pair.first, pair.second)
-}
-
 // Check plan: accepts a non-empty list of sound entries, and answers the last pair.
-pub fn check_strategy(s: &[u8], preorder: &[u64], numbers: &[u16]) -> Verdict
-    ensures { λ r. ⌜ r ≡ checkStrategy (now (s .entry)) (now (preorder .entry)) (now (numbers .entry)) ⌝ }
-    ensures { λ _. ⌜ Promised (now (s .entry)) (now (preorder .entry)) ⌝ }
+pub fn check_strategy(s: &[u8], start: &[u64], numbers: &[u16]) -> Verdict
+    ensures { λ r. ⌜ checkCall (now (s .entry)) (now (start .entry)) (entriesOf (now (numbers .entry))) ≡ checkReply r ⌝ }
+    ensures { λ r. ⌜ CheckPromise (now (s .entry)) (now (start .entry)) (entriesOf (now (numbers .entry))) (checkReply r) ⌝ }
 {
-    let reading = encoding::read_encoding(s);
+    let reading = inputs::read_inputs(s, start);
     match reading {
         encoding::Reading::Refused(r) => Verdict::Refused(r),
-        encoding::Reading::Readable(h) => check_readable(s, h, preorder, numbers),
+        encoding::Reading::Readable(h) => {
+            if !accepted_readable(s, h, start, numbers) {
+                return Verdict::Refused(lts::Refusal::Unsound);
+            }
+            let pair = last_pair(numbers);
+            Verdict::Last(pair.first, pair.second)
+        }
     }
 }
 
@@ -120,16 +109,17 @@ fn write_on_table(
     actions: &[u8; 1024],
     targets: &[u16; 1024],
     offsets: &[u16; 257],
-    preorder: &[u64],
+    start: &[u64],
     p: usize,
     q: usize,
     numbers: &mut [u16],
 ) -> Written
-    requires { ⌜ Sorted n m k (now sources) (now actions) (now targets) (now offsets) × Matrix n (now preorder) × (p < n) × (q < n) ⌝ }
-    ensures { λ r. ⌜ r ≡ writeOn (tableLts n m k (now (sources .entry)) (now (actions .entry)) (now (targets .entry))) (relationOf n (now (preorder .entry))) p q (now (numbers .entry)) .answer ⌝ }
-    ensures { λ r. ⌜ now (numbers .exit) ≡ writeOn (tableLts n m k (now (sources .entry)) (now (actions .entry)) (now (targets .entry))) (relationOf n (now (preorder .entry))) p q (now (numbers .entry)) .numbers ⌝ }
+    requires { ⌜ Sorted n m k (now sources) (now actions) (now targets) (now offsets) × Matrix n (now start) × (p < n) × (q < n) ⌝ }
+    ensures { λ r. ⌜ (let L = tableLts n m k (now (sources .entry)) (now (actions .entry)) (now (targets .entry)) in
+        writeOn L (relationOf n (now (start .entry))) p q (now (numbers .entry))
+        ≡ record { reply = writeReply r; plan = now (numbers .exit) }) ⌝ }
 {
-    let found = rounds::refute(n, m, k, sources, actions, targets, preorder, p, q);
+    let found = rounds::refute(n, m, k, sources, actions, targets, start, p, q);
     let round = found.round;
     let count = found.count;
     if round > n * n {
@@ -146,7 +136,7 @@ fn write_on_table(
         actions,
         targets,
         offsets,
-        preorder,
+        start,
         p,
         q,
         round,
@@ -155,18 +145,18 @@ fn write_on_table(
     Written::Entries(count)
 }
 
-// The same on a readable encoding.
+// The same on a sheet and a start that were read.
 fn write_loaded(
     s: &[u8],
     h: encoding::Header,
-    preorder: &[u64],
+    start: &[u64],
     p: usize,
     q: usize,
     numbers: &mut [u16],
 ) -> Written
-    requires { ⌜ ReadableAs (now s) h × Matrix (h .states) (now preorder) × (p < h .states) × (q < h .states) ⌝ }
-    ensures { λ r. ⌜ r ≡ writeOn (ltsOf (now (s .entry))) (relationOf (h .states) (now (preorder .entry))) p q (now (numbers .entry)) .answer ⌝ }
-    ensures { λ r. ⌜ now (numbers .exit) ≡ writeOn (ltsOf (now (s .entry))) (relationOf (h .states) (now (preorder .entry))) p q (now (numbers .entry)) .numbers ⌝ }
+    requires { ⌜ Ready (now s) h (now start) × (p < h .states) × (q < h .states) ⌝ }
+    ensures { λ r. ⌜ writeOn (ltsOf (now (s .entry))) (relationOf (h .states) (now (start .entry))) p q (now (numbers .entry))
+        ≡ record { reply = writeReply r; plan = now (numbers .exit) } ⌝ }
 {
     let mut marks = [0u8; 256];
     let mut offsets = [0u16; 257];
@@ -193,52 +183,23 @@ fn write_loaded(
         &actions,
         &targets,
         &offsets,
-        preorder,
+        start,
         p,
         q,
         numbers,
     )
 }
 
-// Writing on a readable encoding: refusals 8 to 11 first.
-fn write_readable(
-    s: &[u8],
-    h: encoding::Header,
-    preorder: &[u64],
-    p: usize,
-    q: usize,
-    numbers: &mut [u16],
-) -> Written
-    requires { ⌜ ReadableAs (now s) h ⌝ }
-    ensures { λ r. ⌜ r ≡ writeReadable (now (s .entry)) h (now (preorder .entry)) p q (now (numbers .entry)) .answer ⌝ }
-    ensures { λ r. ⌜ now (numbers .exit) ≡ writeReadable (now (s .entry)) h (now (preorder .entry)) p q (now (numbers .entry)) .numbers ⌝ }
-{
-    let n = h.states;
-    let checked = relation::check_preorder(preorder, n);
-    if let relation::Checked::Refused(r) = checked {
-        return Written::Refused(r);
-    }
-    if !((p < n) & (q < n)) {
-        return Written::Refused(lts::Refusal::NoState);
-    }
-    write_loaded(s, h, preorder, p, q, numbers)
-}
-
 // Write plan: the strategy of the refuted pair (p, q). Numbers past its entries stay as they are.
-pub fn write_strategy(
-    s: &[u8],
-    preorder: &[u64],
-    p: usize,
-    q: usize,
-    numbers: &mut [u16],
-) -> Written
-    ensures { λ r. ⌜ r ≡ writeStrategy (now (s .entry)) (now (preorder .entry)) p q (now (numbers .entry)) .answer ⌝ }
-    ensures { λ r. ⌜ now (numbers .exit) ≡ writeStrategy (now (s .entry)) (now (preorder .entry)) p q (now (numbers .entry)) .numbers ⌝ }
-    ensures { λ _. ⌜ Promised (now (s .entry)) (now (preorder .entry)) ⌝ }
+pub fn write_strategy(s: &[u8], start: &[u64], p: usize, q: usize, numbers: &mut [u16]) -> Written
+    ensures { λ r. ⌜ writeCall entryNumbers 4 (now (s .entry)) (now (start .entry)) p q (now (numbers .entry))
+        ≡ record { reply = writeReply r; plan = now (numbers .exit) } ⌝ }
+    ensures { λ r. ⌜ WritePromise entriesOf 4 (now (s .entry)) (now (start .entry)) p q (now (numbers .entry))
+        (writeReply r) (now (numbers .exit)) ⌝ }
 {
-    let reading = encoding::read_encoding(s);
+    let reading = inputs::read_pair(s, start, p, q);
     match reading {
         encoding::Reading::Refused(r) => Written::Refused(r),
-        encoding::Reading::Readable(h) => write_readable(s, h, preorder, p, q, numbers),
+        encoding::Reading::Readable(h) => write_loaded(s, h, start, p, q, numbers),
     }
 }

@@ -1,31 +1,28 @@
--- Laws of the entries that bytes carry: which they are, that the check looks at nothing else, and what writing leaves of the bytes.
--- Assumes nothing.
-use Prim.Native.Nat.{ℕ, _+_, _*_, _/_, _<_, _≤_}
+-- Laws of the entries that bytes carry: which they are, what writing leaves of the bytes, and that entries come back.
+use Prim.Native.Nat.{ℕ, zero, suc, _+_, _*_, _/_, _%_, _<_, _≤_}
 use native.Mathlib.Omega.{arith}
-use mathlib.Core.Path.{_≡_, refl, sym, _∙_, ap}
-use mathlib.Core.List.{List, _++_}
-use lib.ListN.{length, getD, take, drop}
+use mathlib.Core.Path.{_≡_, refl, sym, _∙_, ap, ap₂}
+use mathlib.Core.List.{List, [], _∷_, _++_}
+use lib.ListN.{length, getD, take, drop, length-append}
 use lib.Seq.{length-take-le}
-use Rattle.carry.specs.Carried.{numberOf, listOf, stored}
-use Rattle.carry.proofs.Laws.{numbers-length, numbers-at}
-use Rattle.carry.proofs.RoundTrip.{Below, stored-front}
-use Rattle.lts.specs.Strategy.{entriesOf, numbersOf}
-use Rattle.lts.proofs.Strategy.{entries-numbers}
-use Rattle.encoding.specs.declared.Reading.{Reading}
-use Rattle.encoding.specs.declared.Reading.the-variants.{Readable, Refused as Unreadable}
-use Rattle.encoding.specs.Encoding.{readEncoding}
+use Rattle.carry.specs.Carried.{numberOf, digits, numbersOf, listOf, bytesOf, stored}
+use Rattle.carry.proofs.Laws.{numbers-length, numbers-at, bytes-length}
+use Rattle.lts.specs.declared.Entry.{Entry}
+use Rattle.lts.specs.Strategy.{entriesOf, entryNumbers}
 use Rattle.strategy.specs.declared.Written.{Written}
-use Rattle.strategy.specs.Check.{checkReadable, checkReading, checkStrategy}
-use Rattle.strategy.specs.Write.{writeStrategy}
+use Rattle.strategy.specs.Write.{writeReply, writeCall}
+use Rattle.strategy.proofs.Promise.{AllSmall, Carrier, numbers-carry, numbers-back}
 use Rattle.entries.specs.Entries.{blank, entryCount, WrittenWithin}
 use Rattle.entries.proofs.Copies.{length-entries, entry-read}
+use Rattle.entries.proofs.Writings.{carried-within}
+use Rattle.strategy_bytes.specs.Bytes.{entryBytes, entriesOfBytes}
 
 length-list : (bytes : List ℕ) → length (listOf bytes) ≡ length bytes / 2
 unfolding listOf
 length-list bytes = numbers-length 2 (length bytes / 2) bytes
 
 -- eight bytes carry an entry
-pub length-carried : (bytes : List ℕ) → length (entriesOf (listOf bytes)) ≡ length bytes / 8
+pub length-carried : (bytes : List ℕ) → length (entriesOfBytes bytes) ≡ length bytes / 8
 length-carried bytes = omega (arith, length-entries (listOf bytes), length-list bytes)
 
 -- the number that the two bytes from k on carry
@@ -38,7 +35,7 @@ list-at bytes k j e l = rw e (sym (numbers-at 2 (length bytes / 2) j bytes l))
 
 -- the eight bytes from 8i on carry entry i
 pub entry-carried : (bytes : List ℕ) (i : ℕ) → 8 * i + 8 ≤ length bytes
-    → record { p = numberAt bytes (8 * i); q = numberAt bytes (8 * i + 2); a = numberAt bytes (8 * i + 4); t = numberAt bytes (8 * i + 6) } ≡ getD (entriesOf (listOf bytes)) i blank
+    → record { p = numberAt bytes (8 * i); q = numberAt bytes (8 * i + 2); a = numberAt bytes (8 * i + 4); t = numberAt bytes (8 * i + 6) } ≡ getD (entriesOfBytes bytes) i blank
 entry-carried bytes i h =
     let l = length-list bytes in
     rw (
@@ -49,28 +46,56 @@ entry-carried bytes i h =
     )
     (entry-read (listOf bytes) i (omega arith))
 
--- the check looks at the entries alone
-pub check-entries : (s preorder xs : List ℕ) → checkStrategy s preorder (numbersOf (entriesOf xs)) ≡ checkStrategy s preorder xs
-unfolding checkStrategy checkReading checkReadable
-check-entries s preorder xs = by (readEncoding s)
-  where
-    by : (r : Reading) → checkReading r s preorder (numbersOf (entriesOf xs)) ≡ checkReading r s preorder xs
-    by (Unreadable r) = refl
-    by (Readable h) = rw (entries-numbers (entriesOf xs))
+-- ## Writing
+-- the first numbers, as those of the entries that they carry
+numbers-front : (c : ℕ) (xs : List ℕ) → 4 * c ≤ length xs → take (4 * c) xs ≡ entryNumbers (take c (entriesOf xs))
+unfolding entriesOf entryNumbers
+numbers-front zero xs h = refl
+numbers-front (suc c) [] h = absurd (omega arith)
+numbers-front (suc c) (p ∷ []) h = absurd (omega arith)
+numbers-front (suc c) (p ∷ q ∷ []) h = absurd (omega arith)
+numbers-front (suc c) (p ∷ q ∷ a ∷ []) h = absurd (omega arith)
+numbers-front (suc c) (p ∷ q ∷ a ∷ t ∷ xs) h =
+    let e : 4 * suc c ≡ suc (suc (suc (suc (4 * c)))) = omega arith in
+    ap (λ (k : ℕ). take k (p ∷ q ∷ a ∷ t ∷ xs)) e ∙ ap (λ (l : List ℕ). p ∷ q ∷ a ∷ t ∷ l) (numbers-front c xs (omega arith))
 
--- Writing: `numbers` are what a strategy was written into, with room for as many entries as the bytes have. They have the same answer,
--- and storing the strategy's numbers alone leaves the others of the bytes.
-module _ {s preorder : List ℕ} {p q : ℕ} {answer : Written} {numbers : List ℕ} (plan : List ℕ) (w : WrittenWithin s preorder p q (length plan / 8) answer numbers) where
-  same-room : length (listOf plan) / 4 ≡ length plan / 8
-  same-room = omega (arith, length-list plan)
+-- `numbers` are what a strategy was written into, with room for as many entries as the bytes have: storing the strategy's numbers is the
+-- call on the bytes
+pub stored-within : (s start : List ℕ) (p q : ℕ) (plan : List ℕ) {answer : Written} {numbers : List ℕ} → WrittenWithin s start p q (length plan / 8) answer numbers
+    → (size : ℕ) → size ≡ 4 * entryCount answer → writeCall entryBytes 8 s start p q plan ≡ record { reply = writeReply answer; plan = stored 2 (take size numbers) plan }
+unfolding stored bytesOf entryNumbers
+stored-within s start p q plan {answer} {numbers} w size e =
+    let c = entryCount answer in
+    let front : take size numbers ≡ entryNumbers (take c (entriesOf numbers)) = ap (λ (k : ℕ). take k numbers) e ∙ numbers-front c numbers (w .whole) in
+    let long : 2 * length (take size numbers) ≡ 8 * c = omega (arith, length-take-le size numbers (omega (arith, w .whole, e)), e) in
+    carried-within entryBytes 8 refl s start p q plan w
+    ∙ sym (ap (λ (l : List ℕ). record { reply = writeReply answer; plan = l })
+    (ap₂ (λ (l : List ℕ) (k : ℕ). bytesOf 2 l ++ drop k plan) front long))
 
-  pub answer-is : answer ≡ writeStrategy s preorder p q (listOf plan) .answer
-  answer-is = w .answered (listOf plan) same-room
+-- ## The bytes of entries carry them
+digits-back : (x : ℕ) → x < 65536 → x % 256 + 256 * (x / 256 % 256 + 256 * 0) ≡ x
+digits-back x h = omega arith
 
-  pub stored-is : Below 256 plan → (size : ℕ) → size ≡ 4 * entryCount answer → stored 2 (take size numbers) plan ≡ stored 2 (writeStrategy s preorder p q (listOf plan) .numbers) plan
-  unfolding listOf
-  stored-is below size e =
-      let n = length-take-le size numbers (omega (arith, w .whole)) in
-      let kept = stored-front 2 (length plan / 2) (take size numbers) plan (omega arith) below (omega (arith, w .fits)) in
-      let there : take size numbers ++ drop size (listOf plan) ≡ writeStrategy s preorder p q (listOf plan) .numbers = rw e (w .carried (listOf plan) same-room) in
-      sym kept ∙ ap (λ (l : List ℕ). stored 2 l plan) ((rw n) ∙ there)
+numbers-carried : (es : List Entry) → AllSmall es → (m : ℕ) (rest : List ℕ)
+    → numbersOf 2 (4 * length es + m) (entryBytes es ++ rest) ≡ entryNumbers es ++ numbersOf 2 m rest
+unfolding numbersOf numberOf bytesOf digits entryNumbers
+numbers-carried [] small m rest = let n : 4 * 0 + m ≡ m = omega arith in ap (λ (k : ℕ). numbersOf 2 k rest) n
+numbers-carried (e ∷ es) small m rest =
+    let n : 4 * suc (length es) + m ≡ suc (suc (suc (suc (4 * length es + m)))) = omega arith in
+    let here = small .0 in
+    rw n (cc (digits-back (e .p) (here .p), digits-back (e .q) (here .q), digits-back (e .a) (here .a), digits-back (e .t) (here .t), numbers-carried es (small .1) m rest))
+
+long-bytes : (es : List Entry) → length (entryBytes es) ≡ 8 * length es
+long-bytes es = omega (arith, bytes-length 2 (entryNumbers es), numbers-carry .long es)
+
+list-carried : (es : List Entry) → AllSmall es → (rest : List ℕ) → listOf (entryBytes es ++ rest) ≡ entryNumbers es ++ listOf rest
+unfolding listOf
+list-carried es small rest =
+    let n : length (entryBytes es ++ rest) / 2 ≡ 4 * length es + length rest / 2 = omega (arith, length-append (entryBytes es) rest, long-bytes es) in
+    ap (λ (k : ℕ). numbersOf 2 k (entryBytes es ++ rest)) n ∙ numbers-carried es small (length rest / 2) rest
+
+pub bytes-carry : Carrier entriesOfBytes entryBytes 8
+bytes-carry = record {
+  long = long-bytes;
+  back = λ es small rest. ap (λ (l : List ℕ). take (length es) (entriesOf l)) (list-carried es small rest) ∙ numbers-back es (listOf rest);
+}

@@ -13,23 +13,18 @@ use Rattle.lts.specs.declared.Refusal.{Refusal}
 use Rattle.lts.specs.declared.Refusal.the-variants.{Unsound}
 use Rattle.lts.specs.Bounded.{listBelow}
 use Rattle.lts.specs.System.{Rel, Lts}
-use Rattle.lts.specs.Strategy.{holds, allSound, accepted, lastOf, entriesOf, numbersOf}
-use Rattle.encoding.specs.declared.Header.{Header}
-use Rattle.encoding.specs.declared.Reading.{Reading}
-use Rattle.encoding.specs.declared.Reading.the-variants.{Readable, Refused as Unreadable}
-use Rattle.encoding.specs.Encoding.{readEncoding}
+use Rattle.lts.specs.Strategy.{holds, allSound, accepted, lastOf}
+use Rattle.lts.specs.Rule.{Nothing, First, broken}
+use Rattle.encoding.specs.Records.{headerOf}
 use Rattle.encoding.specs.Denotation.{ltsOf}
-use Rattle.encoding.proofs.Laws.{denoted}
-use Rattle.relation.specs.declared.Checked.{Checked}
-use Rattle.relation.specs.declared.Checked.the-variants.{Preorder, Refused as NoPreorder}
-use Rattle.relation.specs.Check.{checkPreorder}
 use Rattle.relation.specs.Matrix.{relationOf}
+use Rattle.inputs.specs.Inputs.{inputRules}
 use Rattle.strategy.specs.declared.Verdict.{Verdict}
 use Rattle.strategy.specs.declared.Verdict.the-variants.{Last, Refused}
-use Rattle.strategy.specs.Check.{onPreorder, checkReadable, checkStrategy}
-use Rattle.strategy.proofs.Checks.{readable}
-use Rattle.strategy_parts.specs.Parts.{marked, waitingEntry, withWaiting, judgeWaiting, Judged, Taken, Judges, SameWaiting, answered}
-use Rattle.lts.proofs.Strategy.{entries-numbers}
+use Rattle.strategy.specs.Check.{checkReply, startOf, checkCall}
+use Rattle.strategy.proofs.Checks.{unsound, accepts}
+use Rattle.strategy.proofs.Promise.{known as sheet}
+use Rattle.strategy_parts.specs.Parts.{marked, waitingEntry, withWaiting, judgeWaiting, Judged, Taken, Judges, SameWaiting, verdictAt}
 use Rattle.strategy_parts.proofs.Steps.{last-more, list-more, list-same, same-entry, judged-waiting}
 
 -- ---- an entry is put at its place
@@ -123,9 +118,9 @@ module _ (work : List ℕ) (long : length work ≡ 69636) (j : ℕ) (low : j < 1
       (ap₂ (λ (l : List Entry) (x : Entry). l ++ x ∷ []) (list-same j (waitingEntry work) (waitingEntry (withWaiting work j e)) (λ i h. sym (put-before i h))) (sym put-here)
       ∙ sym (list-more j (waitingEntry (withWaiting work j e))))
 
-  put-judged : (L : Lts) (preorder : Rel) (es : List Entry) → Judged L preorder es work → Judged L preorder es (withWaiting work j e)
+  put-judged : (L : Lts) (start : Rel) (es : List Entry) → Judged L start es work → Judged L start es (withWaiting work j e)
   unfolding marked
-  put-judged L preorder es known = record {
+  put-judged L start es known = record {
     verdict = let h : 65536 < 65540 + 4 * j = omega arith in ap (λ (x : ℕ). eqb x 0) (put-below 65536 h) ∙ known .verdict;
     pairs = λ u p q lp lq. let h : 256 * p + q < 65540 + 4 * j = omega (arith, lp, lq) in ap (λ (x : ℕ). eqb x 1) (put-below (256 * p + q) h) ∙ known .pairs u p q lp lq;
   }
@@ -139,7 +134,7 @@ none-waits es f c h = sym (ap (λ (k : ℕ). es ++ listBelow k f) h ∙ append-n
 length-more : (es : List Entry) (e : Entry) → length (es ++ e ∷ []) ≡ length es + 1
 length-more es e = length-append es (e ∷ [])
 
-module _ (s preorder : List ℕ) (es : List Entry) (work : List ℕ) (long : length work ≡ 69636) (e : Entry) (known : Taken s preorder es work) where
+module _ (s start : List ℕ) (es : List Entry) (work : List ℕ) (long : length work ≡ 69636) (e : Entry) (known : Taken s start es work) where
   abbrev j : ℕ
   j = length es % 1024
 
@@ -154,78 +149,58 @@ module _ (s preorder : List ℕ) (es : List Entry) (work : List ℕ) (long : len
       let at : j ≡ n % 1024 = omega (arith, length-more es e, h) in
       last-more es e ∙ sym (put-here work long j low e) ∙ ap (waitingEntry put) at
 
-  waits : (j ≡ 1023 → ⊥) → Taken s preorder (es ++ e ∷ []) put
+  waits : (j ≡ 1023 → ⊥) → Taken s start (es ++ e ∷ []) put
   waits some =
       let more : suc j ≡ length (es ++ e ∷ []) % 1024 = omega (arith, length-more es e, some) in
       record {
         done = known .done;
         parts = put-parts work long j low e es (known .done) (known .parts) ∙ ap (λ (k : ℕ). known .done ++ listBelow k (waitingEntry put)) more;
-        judged = λ h r c. put-judged work long j low e (ltsOf s) (relationOf (h .states) preorder) (known .done) (known .judged h r c);
+        judged = λ ok. put-judged work long j low e (ltsOf s) (startOf s start) (known .done) (known .judged ok);
         last = last-put;
       }
 
-  whole : (c : ℕ) → suc j ≡ c → c ≡ 1024 → (other : List ℕ) → Judges s preorder put c other → SameWaiting put other → Taken s preorder (es ++ e ∷ []) other
+  whole : (c : ℕ) → suc j ≡ c → c ≡ 1024 → (other : List ℕ) → Judges s start put c other → SameWaiting put other → Taken s start (es ++ e ∷ []) other
   whole c is full other judges same =
       let empty : length (es ++ e ∷ []) % 1024 ≡ 0 = omega (arith, length-more es e, is, full) in
       record {
         done = es ++ e ∷ [];
         parts = none-waits (es ++ e ∷ []) (waitingEntry other) (length (es ++ e ∷ []) % 1024) empty;
-        judged = λ h r ok.
-            let d = denoted s h r in
+        judged = λ ok.
+            let d = sheet s start ok in
             let small : ltsOf s .states ≤ 256 = omega (arith, d .states, d .bounds .states) in
             let L = ltsOf s in
-            let R = relationOf (h .states) preorder in
+            let R = startOf s start in
             let all : es ++ e ∷ [] ≡ known .done ++ listBelow c (waitingEntry put) = put-parts work long j low e es (known .done) (known .parts) ∙ ap (λ (k : ℕ). known .done ++ listBelow k (waitingEntry put)) is in
-            subst (λ (w : List ℕ). Judged L R (es ++ e ∷ []) w) (sym (judges h r ok))
+            subst (λ (w : List ℕ). Judged L R (es ++ e ∷ []) w) (sym (judges ok))
             (subst (λ (l : List Entry). Judged L R l (judgeWaiting L R put c)) (sym all)
-            (judged-waiting L (d .formed) small R (known .done) put (put-long work long j low e) (put-judged work long j low e L R (known .done) (known .judged h r ok)) c));
+            (judged-waiting L (d .formed) small R (known .done) put (put-long work long j low e) (put-judged work long j low e L R (known .done) (known .judged ok)) c));
         last = λ n h. last-put n h ∙ sym (same-entry put other same (n % 1024));
       }
 
 -- with the number of entries as it was given, and the work after the entry is put at its place
-pub taken-waits : (s preorder work : List ℕ) → length work ≡ 69636 → (e : Entry) (i : ℕ) (mid : List ℕ) → mid ≡ withWaiting work (i % 1024) e → (i % 1024 ≡ 1023 → ⊥)
-    → (es : List Entry) → length es ≡ i → Taken s preorder es work → Taken s preorder (es ++ e ∷ []) mid
-taken-waits s preorder work long e i mid is some es h known =
-    subst (λ (w : List ℕ). Taken s preorder (es ++ e ∷ []) w) (sym is)
-    (subst (λ (k : ℕ). (k % 1024 ≡ 1023 → ⊥) → Taken s preorder (es ++ e ∷ []) (withWaiting work (k % 1024) e)) h (waits s preorder es work long e known) some)
+pub taken-waits : (s start work : List ℕ) → length work ≡ 69636 → (e : Entry) (i : ℕ) (mid : List ℕ) → mid ≡ withWaiting work (i % 1024) e → (i % 1024 ≡ 1023 → ⊥)
+    → (es : List Entry) → length es ≡ i → Taken s start es work → Taken s start (es ++ e ∷ []) mid
+taken-waits s start work long e i mid is some es h known =
+    subst (λ (w : List ℕ). Taken s start (es ++ e ∷ []) w) (sym is)
+    (subst (λ (k : ℕ). (k % 1024 ≡ 1023 → ⊥) → Taken s start (es ++ e ∷ []) (withWaiting work (k % 1024) e)) h (waits s start es work long e known) some)
 
-pub taken-whole : (s preorder work : List ℕ) → length work ≡ 69636 → (e : Entry) (i : ℕ) (mid : List ℕ) → mid ≡ withWaiting work (i % 1024) e → i % 1024 ≡ 1023
-    → (c : ℕ) → c ≡ 1024 → (other : List ℕ) → Judges s preorder mid c other → SameWaiting mid other
-    → (es : List Entry) → length es ≡ i → Taken s preorder es work → Taken s preorder (es ++ e ∷ []) other
-taken-whole s preorder work long e i mid put at c full other judges same es h known =
+pub taken-whole : (s start work : List ℕ) → length work ≡ 69636 → (e : Entry) (i : ℕ) (mid : List ℕ) → mid ≡ withWaiting work (i % 1024) e → i % 1024 ≡ 1023
+    → (c : ℕ) → c ≡ 1024 → (other : List ℕ) → Judges s start mid c other → SameWaiting mid other
+    → (es : List Entry) → length es ≡ i → Taken s start es work → Taken s start (es ++ e ∷ []) other
+taken-whole s start work long e i mid put at c full other judges same es h known =
     let is : suc (length es % 1024) ≡ c = omega (arith, at, h, full) in
     let k : mid ≡ withWaiting work (length es % 1024) e = put ∙ ap (λ (x : ℕ). withWaiting work (x % 1024) e) (sym h) in
-    whole s preorder es work long e known c is full other
-    (subst (λ (w : List ℕ). Judges s preorder w c other) k judges)
+    whole s start es work long e known c is full other
+    (subst (λ (w : List ℕ). Judges s start w c other) k judges)
     (subst (λ (w : List ℕ). SameWaiting w other) k same)
 
--- ---- where the encoding or the preorder is refused, nothing is judged
+-- where the sheet or the start is refused, nothing is judged
+pub judges-none : (s start : List ℕ) {r : Refusal} → broken (inputRules s start) ≡ First r → (work : List ℕ) (c : ℕ) (other : List ℕ) → Judges s start work c other
+judges-none s start e work c other ok = cc
 
-header : Reading → Header → Header
-header (Readable h) d = h
-header (Unreadable r) d = d
-
-isReadable : Reading → Type 0
-isReadable (Readable h) = Unit {0}
-isReadable (Unreadable r) = ⊥
-
-isPreorder : Checked → Type 0
-isPreorder Preorder = Unit {0}
-isPreorder (NoPreorder r) = ⊥
-
-pub preorder-passed : {c : Checked} {r : Refusal} → c ≡ NoPreorder r → c ≡ Preorder → ⊥
-unfolding isPreorder
-preorder-passed e f = subst isPreorder (sym f ∙ e) tt
-
-pub judges-none : (s : List ℕ) {r : Refusal} → readEncoding s ≡ Unreadable r → (preorder work : List ℕ) (c : ℕ) (other : List ℕ) → Judges s preorder work c other
-unfolding isReadable
-judges-none s e preorder work c other h r ok = absurd (subst isReadable (sym r ∙ e) tt)
-
-pub judges-at : (s : List ℕ) {h : Header} → readEncoding s ≡ Readable h → (preorder work : List ℕ) (c : ℕ) (other : List ℕ)
-    → (checkPreorder (h .states) preorder ≡ Preorder → other ≡ judgeWaiting (ltsOf s) (relationOf (h .states) preorder) work c) → Judges s preorder work c other
-unfolding header
-judges-at s {h} e preorder work c other f k r =
-    subst (λ (x : Header). checkPreorder (x .states) preorder ≡ Preorder → other ≡ judgeWaiting (ltsOf s) (relationOf (x .states) preorder) work c) (ap (λ (x : Reading). header x h) (sym e ∙ r)) f
+pub judges-at : (s start : List ℕ) {n : ℕ} → n ≡ headerOf s .states → (work : List ℕ) (c : ℕ) (other : List ℕ)
+    → other ≡ judgeWaiting (ltsOf s) (relationOf n start) work c → Judges s start work c other
+judges-at s start size work c other e ok = e ∙ ap (λ (k : ℕ). judgeWaiting (ltsOf s) (relationOf k start) work c) size
 
 -- before the first
 zeros : (n i : ℕ) → _≡_ {A = ℕ} (getD (replicate {A = ℕ} n 0) i 0) 0
@@ -233,12 +208,12 @@ zeros zero i = refl
 zeros (suc n) zero = refl
 zeros (suc n) (suc i) = zeros n i
 
-pub taken-none : (s preorder : List ℕ) (n : ℕ) → Taken s preorder [] (replicate {A = ℕ} n 0)
+pub taken-none : (s start : List ℕ) (n : ℕ) → Taken s start [] (replicate {A = ℕ} n 0)
 unfolding marked holds allSound listBelow
-taken-none s preorder n = record {
+taken-none s start n = record {
   done = [];
   parts = refl;
-  judged = λ h r c. record {
+  judged = λ ok. record {
     verdict = ap (λ (x : ℕ). eqb x 0) (zeros n 65536);
     pairs = λ _ p q lp lq. ap (λ (x : ℕ). eqb x 1) (zeros n (256 * p + q));
   };
@@ -247,19 +222,15 @@ taken-none s preorder n = record {
 
 -- ---- the answer
 
-module _ (checked : Checked) (work : List ℕ) (count : ℕ) where
-  pub answer-no-preorder : {r : Refusal} → checked ≡ NoPreorder r → Refused r ≡ answered checked work count
-  unfolding answered onPreorder
-  answer-no-preorder e = rw e
+module _ (work : List ℕ) (count : ℕ) where
+  pub answer-unsound : eqb count 0 || not (eqb (getD work 65536 0) 0) ≡ true → Refused Unsound ≡ verdictAt work count
+  unfolding verdictAt
+  answer-unsound h = rw h
 
-  pub answer-unsound : checked ≡ Preorder → eqb count 0 || not (eqb (getD work 65536 0) 0) ≡ true → Refused Unsound ≡ answered checked work count
-  unfolding answered onPreorder
-  answer-unsound e h = rw (e, h)
-
-  pub answer-last : {x y : ℕ} → checked ≡ Preorder → eqb count 0 || not (eqb (getD work 65536 0) 0) ≡ false
-      → x ≡ getD work (65540 + 4 * ((count - 1) % 1024)) 0 → y ≡ getD work (65540 + 4 * ((count - 1) % 1024) + 1) 0 → Last x y ≡ answered checked work count
-  unfolding answered onPreorder waitingEntry
-  answer-last e h x y = rw (e, h, x, y)
+  pub answer-last : {x y : ℕ} → eqb count 0 || not (eqb (getD work 65536 0) 0) ≡ false
+      → x ≡ getD work (65540 + 4 * ((count - 1) % 1024)) 0 → y ≡ getD work (65540 + 4 * ((count - 1) % 1024) + 1) 0 → Last x y ≡ verdictAt work count
+  unfolding verdictAt waitingEntry
+  answer-last h x y = rw (h, x, y)
 
 pub count-some : (count : ℕ) (b : Bool) → eqb count 0 || b ≡ false → 1 ≤ count
 count-some count b h = let some = eqb-false count 0 (left (eqb count 0) b h) in omega (arith, some)
@@ -268,59 +239,51 @@ count-some count b h = let some = eqb-false count 0 (left (eqb count 0) b h) in 
     left true b h = h
     left false b h = refl
 
-on-same : (c : Checked) (x y : Verdict) → (c ≡ Preorder → x ≡ y) → onPreorder c x ≡ onPreorder c y
-unfolding onPreorder
-on-same Preorder x y h = h refl
-on-same (NoPreorder r) x y h = refl
-
 flip : (b : Bool) (x y : Verdict) → cond (not b) x y ≡ cond b y x
 flip true x y = refl
 flip false x y = refl
 
 -- the answer of the definitions for the entries es
-abbrev given : Lts → Rel → List Entry → Verdict
-given L preorder es = cond (accepted L preorder es) (Last (lastOf es .p) (lastOf es .q)) (Refused Unsound)
+abbrev told : Bool → List Entry → Verdict
+told b es = cond b (Last (lastOf es .p) (lastOf es .q)) (Refused Unsound)
 
--- the answer of the code
-abbrev found : List ℕ → ℕ → Verdict
-found work count = cond (eqb count 0 || not (eqb (getD work 65536 0) 0)) (Refused Unsound) (Last (waitingEntry work ((count - 1) % 1024) .p) (waitingEntry work ((count - 1) % 1024) .q))
-
-found-given : (L : Lts) (preorder : Rel) (work : List ℕ) (count : ℕ) (es : List Entry) → length es ≡ count → Judged L preorder es work
-    → ((n : ℕ) → length es ≡ suc n → lastOf es ≡ waitingEntry work (n % 1024)) → found work count ≡ given L preorder es
-unfolding accepted
-found-given L preorder work count [] h known last = ap (found work) (sym h)
-found-given L preorder work count (x ∷ es) h known last =
+verdict-told : (L : Lts) (start : Rel) (work : List ℕ) (count : ℕ) (es : List Entry) → length es ≡ count → Judged L start es work
+    → ((n : ℕ) → length es ≡ suc n → lastOf es ≡ waitingEntry work (n % 1024)) → verdictAt work count ≡ told (accepted L start es) es
+unfolding accepted verdictAt
+verdict-told L start work count [] h known last = ap (verdictAt work) (sym h)
+verdict-told L start work count (x ∷ es) h known last =
     let n = length es in
     let back : suc n - 1 ≡ n = omega arith in
     let some : eqb (suc n) 0 ≡ false = ne-eqb (suc n) 0 (λ d. omega (arith, d)) in
-    ap (found work) (sym h)
+    ap (verdictAt work) (sym h)
     ∙ ap (λ (b : Bool). cond (b || not (eqb (getD work 65536 0) 0)) (Refused Unsound) (Last (waitingEntry work ((suc n - 1) % 1024) .p) (waitingEntry work ((suc n - 1) % 1024) .q))) some
     ∙ ap (λ (k : ℕ). cond (not (eqb (getD work 65536 0) 0)) (Refused Unsound) (Last (waitingEntry work (k % 1024) .p) (waitingEntry work (k % 1024) .q))) back
     ∙ ap (λ (l : Entry). cond (not (eqb (getD work 65536 0) 0)) (Refused Unsound) (Last (l .p) (l .q))) (sym (last n refl))
     ∙ ap (λ (b : Bool). cond (not b) (Refused Unsound) (Last (lastOf (x ∷ es) .p) (lastOf (x ∷ es) .q))) (known .verdict)
-    ∙ flip (allSound L preorder [] (x ∷ es)) (Refused Unsound) (Last (lastOf (x ∷ es) .p) (lastOf (x ∷ es) .q))
+    ∙ flip (allSound L start [] (x ∷ es)) (Refused Unsound) (Last (lastOf (x ∷ es) .p) (lastOf (x ∷ es) .q))
 
-pub concluded : (s : List ℕ) (h : Header) (preorder work other : List ℕ) (count : ℕ) → length work ≡ 69636 → readEncoding s ≡ Readable h
-    → Judges s preorder work (count % 1024) other → SameWaiting work other → (es : List Entry) → length es ≡ count → Taken s preorder es work
-    → answered (checkPreorder (h .states) preorder) other count ≡ checkStrategy s preorder (numbersOf es)
-unfolding answered checkReadable
-concluded s h preorder work other count long r judges same es n known =
-    on-same (checkPreorder (h .states) preorder) (found other count) (given L R (entriesOf (numbersOf es)))
-    (λ ok. found-given L R other count es n (now-judged ok) (λ k e. known .last k e ∙ sym (same-entry work other same (k % 1024)))
-    ∙ ap (given L R) (sym (entries-numbers es)))
-    ∙ readable s h preorder (numbersOf es) r
-  where
-    L : Lts
-    L = ltsOf s
+module _ (s start : List ℕ) (ok : broken (inputRules s start) ≡ Nothing) where
+  abbrev L : Lts
+  L = ltsOf s
 
-    R : Rel
-    R = relationOf (h .states) preorder
+  abbrev R : Rel
+  R = startOf s start
 
-    now-judged : checkPreorder (h .states) preorder ≡ Preorder → Judged (ltsOf s) (relationOf (h .states) preorder) es other
-    now-judged ok =
-        let d = denoted s h r in
-        let small : ltsOf s .states ≤ 256 = omega (arith, d .states, d .bounds .states) in
-        let all : known .done ++ listBelow (count % 1024) (waitingEntry work) ≡ es = ap (λ (k : ℕ). known .done ++ listBelow (k % 1024) (waitingEntry work)) (sym n) ∙ sym (known .parts) in
-        subst (λ (w : List ℕ). Judged (ltsOf s) (relationOf (h .states) preorder) es w) (sym (judges h r ok))
-        (subst (λ (l : List Entry). Judged (ltsOf s) (relationOf (h .states) preorder) l (judgeWaiting (ltsOf s) (relationOf (h .states) preorder) work (count % 1024))) all
-        (judged-waiting (ltsOf s) (d .formed) small (relationOf (h .states) preorder) (known .done) work long (known .judged h r ok) (count % 1024)))
+  call-told : (es : List Entry) (b : Bool) → b ≡ accepted L R es → checkCall s start es ≡ checkReply (told b es)
+  call-told es true t = accepts s start es _ refl ok t refl refl refl
+  call-told es false t = unsound s start es _ refl ok t refl
+
+  pub concluded : (work other : List ℕ) (count : ℕ) → length work ≡ 69636 → Judges s start work (count % 1024) other → SameWaiting work other
+      → (es : List Entry) → length es ≡ count → Taken s start es work → checkCall s start es ≡ checkReply (verdictAt other count)
+  concluded work other count long judges same es n taken =
+      call-told es (accepted L R es) refl
+      ∙ ap checkReply (sym (verdict-told L R other count es n judged (λ k e. taken .last k e ∙ sym (same-entry work other same (k % 1024)))))
+    where
+      judged : Judged L R es other
+      judged =
+          let d = sheet s start ok in
+          let small : L .states ≤ 256 = omega (arith, d .states, d .bounds .states) in
+          let all : taken .done ++ listBelow (count % 1024) (waitingEntry work) ≡ es = ap (λ (k : ℕ). taken .done ++ listBelow (k % 1024) (waitingEntry work)) (sym n) ∙ sym (taken .parts) in
+          subst (λ (w : List ℕ). Judged L R es w) (sym (judges ok))
+          (subst (λ (l : List Entry). Judged L R l (judgeWaiting L R work (count % 1024))) all
+          (judged-waiting L (d .formed) small R (taken .done) work long (taken .judged ok) (count % 1024)))

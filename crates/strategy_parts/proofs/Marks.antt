@@ -58,28 +58,28 @@ row-target n m k sources actions targets offsets tab rows q hq i h = omega (arit
 
 -- ---- an entry, test by test
 
-module _ (n m k : ℕ) (sources actions targets : List ℕ) (preorder M : Rel) (p q a t : ℕ) where
+module _ (n m k : ℕ) (sources actions targets : List ℕ) (start M : Rel) (p q a t : ℕ) where
   abbrev S : Lts
   S = tableLts n m k sources actions targets
 
-  pub unsound-p : n ≤ p → false ≡ soundOn S preorder M p q a t
+  pub unsound-p : n ≤ p → false ≡ soundOn S start M p q a t
   unfolding soundOn tableLts
   unsound-p h = rw (le-ltb _ _ h)
 
-  pub unsound-q : p < n → n ≤ q → false ≡ soundOn S preorder M p q a t
+  pub unsound-q : p < n → n ≤ q → false ≡ soundOn S start M p q a t
   unfolding soundOn tableLts
   unsound-q hp h = rw (lt-ltb _ _ hp, le-ltb _ _ h)
 
-  pub sound-outside : p < n → q < n → outside preorder p q a t ≡ true → true ≡ soundOn S preorder M p q a t
+  pub sound-outside : p < n → q < n → outside start p q a t ≡ true → true ≡ soundOn S start M p q a t
   unfolding soundOn tableLts
   sound-outside hp hq h = rw (lt-ltb _ _ hp, lt-ltb _ _ hq, h)
 
-  module _ (hp : p < n) (hq : q < n) (inside : outside preorder p q a t ≡ false) where
-    pub unsound-transition : S .transition p a t ≡ false → false ≡ soundOn S preorder M p q a t
+  module _ (hp : p < n) (hq : q < n) (inside : outside start p q a t ≡ false) where
+    pub unsound-transition : S .transition p a t ≡ false → false ≡ soundOn S start M p q a t
     unfolding soundOn tableLts
     unsound-transition h = rw (lt-ltb _ _ hp, lt-ltb _ _ hq, inside, h)
 
-    pub sound-replies : S .transition p a t ≡ true → {x : ℕ} → x ≡ t → repliesIn S M q a x ≡ soundOn S preorder M p q a t
+    pub sound-replies : S .transition p a t ≡ true → {x : ℕ} → x ≡ t → repliesIn S M q a x ≡ soundOn S start M p q a t
     unfolding soundOn tableLts
     sound-replies h e = ap (repliesIn S M q a) e ∙ rw (lt-ltb _ _ hp, lt-ltb _ _ hq, inside, h)
 
@@ -89,32 +89,32 @@ unfolding tableLts
 target-below n m k sources actions targets tab p a t e u = subst (λ (y : ℕ). y < n) (sym e) (table-formed n m k sources actions targets tab .target p a t (true-T _ u))
 
 -- the pair of a sound entry is a pair of states
-pub sound-states : (L : Lts) (preorder M : Rel) (p q a t : ℕ) → soundOn L preorder M p q a t ≡ true → (p < L .states) × (q < L .states)
+pub sound-states : (L : Lts) (start M : Rel) (p q a t : ℕ) → soundOn L start M p q a t ≡ true → (p < L .states) × (q < L .states)
 unfolding soundOn
-sound-states L preorder M p q a t h =
+sound-states L start M p q a t h =
     let both = and-fst (ltb p (L .states) && ltb q (L .states)) _ h in
     (ltb-true _ _ (and-fst (ltb p (L .states)) (ltb q (L .states)) both), ltb-true _ _ (and-snd (ltb p (L .states)) (ltb q (L .states)) both))
 
 -- and has its place among the marks
-pub sound-place : (n m k : ℕ) (sources actions targets : List ℕ) → Table n m k sources actions targets → (preorder M : Rel) (p q a t : ℕ)
-    → soundOn (tableLts n m k sources actions targets) preorder M p q a t ≡ true → 256 * p + q < 65536
+pub sound-place : (n m k : ℕ) (sources actions targets : List ℕ) → Table n m k sources actions targets → (start M : Rel) (p q a t : ℕ)
+    → soundOn (tableLts n m k sources actions targets) start M p q a t ≡ true → 256 * p + q < 65536
 unfolding tableLts
-sound-place n m k sources actions targets tab preorder M p q a t h =
-    let b = sound-states (tableLts n m k sources actions targets) preorder M p q a t h in
+sound-place n m k sources actions targets tab start M p q a t h =
+    let b = sound-states (tableLts n m k sources actions targets) start M p q a t h in
     place (b .0) (b .1)
   where
     place : p < n → q < n → 256 * p + q < 65536
     place hp hq = omega (arith, hp, hq, tab .states)
 
 -- soundness depends on the earlier entries only through the pairs below 256 that they hold
-module _ (L : Lts) (wf : WellFormed L) (small : L .states ≤ 256) (preorder M N : Rel) (same : (p q : ℕ) → p < 256 → q < 256 → M p q ≡ N p q) where
+module _ (L : Lts) (wf : WellFormed L) (small : L .states ≤ 256) (start M N : Rel) (same : (p q : ℕ) → p < 256 → q < 256 → M p q ≡ N p q) where
   replies-agree : (q a t : ℕ) → t < L .states → repliesIn L M q a t ≡ repliesIn L N q a t
   unfolding repliesIn allStates
   replies-agree q a t h = all-cong (L .states) _ _ (λ r l. ap (λ (b : Bool). L .transition q a r ⇒ b) (same t r (omega (arith, h, small)) (omega (arith, l, small))))
 
-  pub sound-agree : (p q a t : ℕ) → soundOn L preorder M p q a t ≡ soundOn L preorder N p q a t
+  pub sound-agree : (p q a t : ℕ) → soundOn L start M p q a t ≡ soundOn L start N p q a t
   unfolding soundOn
-  sound-agree p q a t = ap (λ (b : Bool). ltb p (L .states) && ltb q (L .states) && (outside preorder p q a t || b)) (go (either (L .transition p a t)))
+  sound-agree p q a t = ap (λ (b : Bool). ltb p (L .states) && ltb q (L .states) && (outside start p q a t || b)) (go (either (L .transition p a t)))
     where
       go : (L .transition p a t ≡ true) ⊎ (L .transition p a t ≡ false) → L .transition p a t && repliesIn L M q a t ≡ L .transition p a t && repliesIn L N q a t
       go (inr f) = ap (λ (b : Bool). b && repliesIn L M q a t) f ∙ sym (ap (λ (b : Bool). b && repliesIn L N q a t) f)

@@ -11,19 +11,14 @@ use Rattle.lts.specs.declared.Entry.{Entry}
 use Rattle.lts.specs.declared.Refusal.the-variants.{Unsound}
 use Rattle.lts.specs.Bounded.{_⇒_, listBelow}
 use Rattle.lts.specs.System.{Rel, Lts, allStates}
-use Rattle.lts.specs.Strategy.{holds, allSound, lastOf, numbersOf}
-use Rattle.encoding.specs.declared.Header.{Header}
-use Rattle.encoding.specs.declared.Reading.the-variants.{Readable}
-use Rattle.encoding.specs.Encoding.{readEncoding}
+use Rattle.lts.specs.Strategy.{holds, allSound, lastOf}
+use Rattle.lts.specs.Rule.{Nothing, broken}
 use Rattle.encoding.specs.Denotation.{ltsOf}
-use Rattle.relation.specs.declared.Checked.{Checked}
-use Rattle.relation.specs.declared.Checked.the-variants.{Preorder}
-use Rattle.relation.specs.Check.{checkPreorder}
-use Rattle.relation.specs.Matrix.{relationOf}
+use Rattle.inputs.specs.Inputs.{inputRules}
 use Rattle.strategy_check.specs.Entries.{outside}
 use Rattle.strategy.specs.declared.Verdict.{Verdict}
 use Rattle.strategy.specs.declared.Verdict.the-variants.{Last, Refused}
-use Rattle.strategy.specs.Check.{onPreorder, checkStrategy}
+use Rattle.strategy.specs.Check.{checkReply, startOf, checkCall}
 
 -- the pairs that have the mark
 unfoldable pub marked : List ℕ → Rel
@@ -48,37 +43,35 @@ repliesIn L M q a t = allStates L (λ r. L .transition q a r ⇒ M t r)
 
 -- the entry p, q, a, t is sound over earlier entries that hold the pairs of M
 unfoldable pub soundOn : Lts → Rel → Rel → ℕ → ℕ → ℕ → ℕ → Bool
-soundOn L preorder M p q a t =
-    ltb p (L .states) && ltb q (L .states) && (outside preorder p q a t || L .transition p a t && repliesIn L M q a t)
+soundOn L start M p q a t =
+    ltb p (L .states) && ltb q (L .states) && (outside start p q a t || L .transition p a t && repliesIn L M q a t)
 
 -- the work after an entry is judged, and after the first c of those that wait
 unfoldable pub judgeEntry : Lts → Rel → List ℕ → Entry → List ℕ
-judgeEntry L preorder work e =
-    cond (soundOn L preorder (marked work) (e .p) (e .q) (e .a) (e .t)) (set work (256 * e .p + e .q) 1) (set work 65536 1)
+judgeEntry L start work e =
+    cond (soundOn L start (marked work) (e .p) (e .q) (e .a) (e .t)) (set work (256 * e .p + e .q) 1) (set work 65536 1)
 
 unfoldable pub judgeWaiting : Lts → Rel → List ℕ → ℕ → List ℕ
-judgeWaiting L preorder work zero = work
-judgeWaiting L preorder work (suc c) =
-    let judged = judgeWaiting L preorder work c in
-    judgeEntry L preorder judged (waitingEntry judged c)
+judgeWaiting L start work zero = work
+judgeWaiting L start work (suc c) =
+    let judged = judgeWaiting L start work c in
+    judgeEntry L start judged (waitingEntry judged c)
 
 -- the work knows whether the entries are sound over those before them, and, if so, which pairs they hold
-pub record Judged (L : Lts) (preorder : Rel) (es : List Entry) (work : List ℕ) : Type 0 where
-  pub verdict : eqb (getD work 65536 0) 0 ≡ allSound L preorder [] es
-  pub pairs : allSound L preorder [] es ≡ true → (p q : ℕ) → p < 256 → q < 256 → marked work p q ≡ holds es p q
+pub record Judged (L : Lts) (start : Rel) (es : List Entry) (work : List ℕ) : Type 0 where
+  pub verdict : eqb (getD work 65536 0) 0 ≡ allSound L start [] es
+  pub pairs : allSound L start [] es ≡ true → (p q : ℕ) → p < 256 → q < 256 → marked work p q ≡ holds es p q
 
 -- the entries es came one by one: whole parts of them are judged, and the others wait
-pub record Taken (s preorder : List ℕ) (es : List Entry) (work : List ℕ) : Type 0 where
+pub record Taken (s start : List ℕ) (es : List Entry) (work : List ℕ) : Type 0 where
   pub done : List Entry
   pub parts : es ≡ done ++ listBelow (length es % 1024) (waitingEntry work)
-  pub judged : (h : Header) → readEncoding s ≡ Readable h → checkPreorder (h .states) preorder ≡ Preorder
-      → Judged (ltsOf s) (relationOf (h .states) preorder) done work
+  pub judged : broken (inputRules s start) ≡ Nothing → Judged (ltsOf s) (startOf s start) done work
   pub last : (n : ℕ) → length es ≡ suc n → lastOf es ≡ waitingEntry work (n % 1024)
 
--- the first c entries that wait are judged, if the encoding and the preorder pass their tests
+-- the first c entries that wait are judged, if the sheet and the start keep their rules
 abbrev pub Judges : List ℕ → List ℕ → List ℕ → ℕ → List ℕ → Type 0
-Judges s preorder work c other = (h : Header) → readEncoding s ≡ Readable h → checkPreorder (h .states) preorder ≡ Preorder
-    → other ≡ judgeWaiting (ltsOf s) (relationOf (h .states) preorder) work c
+Judges s start work c other = broken (inputRules s start) ≡ Nothing → other ≡ judgeWaiting (ltsOf s) (startOf s start) work c
 
 -- what lies after the marks and the verdict is the same in both
 abbrev pub SameWaiting : List ℕ → List ℕ → Type 0
@@ -86,16 +79,15 @@ SameWaiting work other = (x : ℕ) → 65536 < x → getD other x 0 ≡ getD wor
 
 -- e is taken after any i entries
 abbrev pub TakesEntry : List ℕ → List ℕ → List ℕ → ℕ → Entry → List ℕ → Type 0
-TakesEntry s preorder work i e other = (es : List Entry) → length es ≡ i → Taken s preorder es work → Taken s preorder (es ++ e ∷ []) other
+TakesEntry s start work i e other = (es : List Entry) → length es ≡ i → Taken s start es work → Taken s start (es ++ e ∷ []) other
 
 -- the answer where `count` entries are judged
-unfoldable pub answered : Checked → List ℕ → ℕ → Verdict
-answered checked work count =
-    onPreorder checked
-    (cond (eqb count 0 || not (eqb (getD work 65536 0) 0))
+unfoldable pub verdictAt : List ℕ → ℕ → Verdict
+verdictAt work count =
+    cond (eqb count 0 || not (eqb (getD work 65536 0) 0))
     (Refused Unsound)
-    (Last (waitingEntry work ((count - 1) % 1024) .p) (waitingEntry work ((count - 1) % 1024) .q)))
+    (Last (waitingEntry work ((count - 1) % 1024) .p) (waitingEntry work ((count - 1) % 1024) .q))
 
 -- r is the answer for any entries that were taken
 abbrev pub Concludes : List ℕ → List ℕ → List ℕ → ℕ → Verdict → Type 0
-Concludes s preorder work count r = (es : List Entry) → length es ≡ count → Taken s preorder es work → r ≡ checkStrategy s preorder (numbersOf es)
+Concludes s start work count r = (es : List Entry) → length es ≡ count → Taken s start es work → checkCall s start es ≡ checkReply r

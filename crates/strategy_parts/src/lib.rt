@@ -5,15 +5,11 @@ ghost use mathlib.Core.Path.{_≡_};
 ghost use Prim.Native.Nat.{_<_, _≤_};
 ghost use lib.ListN.{length, getD};
 ghost use Rattle.lts.specs.Table.{Table, Rows, tableLts};
-ghost use Rattle.encoding.specs.declared.Reading.the-variants.{Readable};
-ghost use Rattle.encoding.specs.Checked.{ReadableAs};
-ghost use Rattle.encoding.specs.Encoding.{readEncoding};
 ghost use Rattle.encoding.specs.Denotation.{ltsOf};
-ghost use Rattle.relation.specs.declared.Checked.the-variants.{Preorder};
-ghost use Rattle.relation.specs.Check.{checkPreorder};
+ghost use Rattle.inputs.specs.Inputs.{Ready};
 ghost use Rattle.relation.specs.Matrix.{relationOf, Matrix};
-ghost use Rattle.strategy.specs.Demand.{Promised};
-ghost use Rattle.strategy_parts.specs.Parts.{marked, waitingEntry, withWaiting, openAt, repliesIn, soundOn, judgeEntry, judgeWaiting, Judges, SameWaiting, TakesEntry, answered, Concludes};
+ghost use Rattle.strategy_parts.specs.Parts.{marked, waitingEntry, withWaiting, openAt, repliesIn, soundOn, judgeEntry, judgeWaiting};
+ghost use Rattle.strategy_parts.specs.Parts.{Judges, SameWaiting, TakesEntry, verdictAt, Concludes};
 
 fn wide(x: u16) -> usize
     ensures { λ r. ⌜ r ≡ x ⌝ }
@@ -57,7 +53,8 @@ fn replies_marked(
     a: u16,
     t: usize,
 ) -> bool
-    requires { ⌜ Table n m k (now sources) (now actions) (now targets) × Rows n k (now sources) (now offsets) × (length (now work) ≡ 69636) × (q < n) × (t < n) ⌝ }
+    requires { ⌜ Table n m k (now sources) (now actions) (now targets) × Rows n k (now sources) (now offsets)
+        × (length (now work) ≡ 69636) × (q < n) × (t < n) ⌝ }
     ensures { λ x. ⌜ x ≡ repliesIn (tableLts n m k (now (sources .entry)) (now (actions .entry)) (now (targets .entry))) (marked (now (work .entry))) q a t ⌝ }
 {
     let end = wide(offsets[q + 1]);
@@ -80,15 +77,17 @@ fn is_sound(
     actions: &[u8; 1024],
     targets: &[u16; 1024],
     offsets: &[u16; 257],
-    preorder: &[u64],
+    start: &[u64],
     work: &[u16],
     p: usize,
     q: usize,
     a: u16,
     t: u16,
 ) -> bool
-    requires { ⌜ Table n m k (now sources) (now actions) (now targets) × Rows n k (now sources) (now offsets) × Matrix n (now preorder) × (length (now work) ≡ 69636) ⌝ }
-    ensures { λ x. ⌜ x ≡ soundOn (tableLts n m k (now (sources .entry)) (now (actions .entry)) (now (targets .entry))) (relationOf n (now (preorder .entry))) (marked (now (work .entry))) p q a t ⌝ }
+    requires { ⌜ Table n m k (now sources) (now actions) (now targets) × Rows n k (now sources) (now offsets)
+        × Matrix n (now start) × (length (now work) ≡ 69636) ⌝ }
+    ensures { λ x. ⌜ (let L = tableLts n m k (now (sources .entry)) (now (actions .entry)) (now (targets .entry)) in
+        x ≡ soundOn L (relationOf n (now (start .entry))) (marked (now (work .entry))) p q a t) ⌝ }
 {
     if n <= p {
         return false;
@@ -96,7 +95,7 @@ fn is_sound(
     if n <= q {
         return false;
     }
-    if strategy_check::is_outside(n, preorder, p, q, a, t) {
+    if strategy_check::is_outside(n, start, p, q, a, t) {
         return true;
     }
     if !strategy_check::has_transition(n, m, k, sources, actions, targets, offsets, p, a, t) {
@@ -126,12 +125,14 @@ fn judge_entry(
     actions: &[u8; 1024],
     targets: &[u16; 1024],
     offsets: &[u16; 257],
-    preorder: &[u64],
+    start: &[u64],
     work: &mut [u16],
     j: usize,
 )
-    requires { ⌜ Table n m k (now sources) (now actions) (now targets) × Rows n k (now sources) (now offsets) × Matrix n (now preorder) × (length (now work) ≡ 69636) × (j < 1024) ⌝ }
-    ensures { λ _. ⌜ now (work .exit) ≡ judgeEntry (tableLts n m k (now (sources .entry)) (now (actions .entry)) (now (targets .entry))) (relationOf n (now (preorder .entry))) (now (work .entry)) (waitingEntry (now (work .entry)) j) ⌝ }
+    requires { ⌜ Table n m k (now sources) (now actions) (now targets) × Rows n k (now sources) (now offsets)
+        × Matrix n (now start) × (length (now work) ≡ 69636) × (j < 1024) ⌝ }
+    ensures { λ _. ⌜ (let L = tableLts n m k (now (sources .entry)) (now (actions .entry)) (now (targets .entry)) in
+        now (work .exit) ≡ judgeEntry L (relationOf n (now (start .entry))) (now (work .entry)) (waitingEntry (now (work .entry)) j)) ⌝ }
 {
     let at = 65540 + 4 * j;
     let p = wide(work[at]);
@@ -146,7 +147,7 @@ fn judge_entry(
         actions,
         targets,
         offsets,
-        preorder,
+        start,
         &*work,
         p,
         q,
@@ -168,12 +169,14 @@ fn judge_table(
     actions: &[u8; 1024],
     targets: &[u16; 1024],
     offsets: &[u16; 257],
-    preorder: &[u64],
+    start: &[u64],
     work: &mut [u16],
     c: usize,
 )
-    requires { ⌜ Table n m k (now sources) (now actions) (now targets) × Rows n k (now sources) (now offsets) × Matrix n (now preorder) × (length (now work) ≡ 69636) × (c ≤ 1024) ⌝ }
-    ensures { λ _. ⌜ now (work .exit) ≡ judgeWaiting (tableLts n m k (now (sources .entry)) (now (actions .entry)) (now (targets .entry))) (relationOf n (now (preorder .entry))) (now (work .entry)) c ⌝ }
+    requires { ⌜ Table n m k (now sources) (now actions) (now targets) × Rows n k (now sources) (now offsets)
+        × Matrix n (now start) × (length (now work) ≡ 69636) × (c ≤ 1024) ⌝ }
+    ensures { λ _. ⌜ (let L = tableLts n m k (now (sources .entry)) (now (actions .entry)) (now (targets .entry)) in
+        now (work .exit) ≡ judgeWaiting L (relationOf n (now (start .entry))) (now (work .entry)) c) ⌝ }
 {
     let mut j = 0;
     while j < c {
@@ -185,7 +188,7 @@ fn judge_table(
             actions,
             targets,
             offsets,
-            preorder,
+            start,
             &mut *work,
             j,
         );
@@ -193,10 +196,11 @@ fn judge_table(
     }
 }
 
-// The same on a readable encoding.
-fn judge_loaded(s: &[u8], h: encoding::Header, preorder: &[u64], work: &mut [u16], c: usize)
-    requires { ⌜ ReadableAs (now s) h × Matrix (h .states) (now preorder) × (length (now work) ≡ 69636) × (c ≤ 1024) ⌝ }
-    ensures { λ _. ⌜ now (work .exit) ≡ judgeWaiting (ltsOf (now (s .entry))) (relationOf (h .states) (now (preorder .entry))) (now (work .entry)) c ⌝ }
+// The same on a sheet and a start that were read.
+fn judge_loaded(s: &[u8], h: encoding::Header, start: &[u64], work: &mut [u16], c: usize)
+    requires { ⌜ Ready (now s) h (now start) × (length (now work) ≡ 69636) × (c ≤ 1024) ⌝ }
+    ensures { λ _. ⌜ now (work .exit)
+        ≡ judgeWaiting (ltsOf (now (s .entry))) (relationOf (h .states) (now (start .entry))) (now (work .entry)) c ⌝ }
 {
     let mut marks = [0u8; 256];
     let mut offsets = [0u16; 257];
@@ -223,35 +227,21 @@ fn judge_loaded(s: &[u8], h: encoding::Header, preorder: &[u64], work: &mut [u16
         &actions,
         &targets,
         &offsets,
-        preorder,
+        start,
         work,
         c,
     );
 }
 
-// The same where the preorder passes its tests; otherwise nothing is judged.
-fn judge_readable(s: &[u8], h: encoding::Header, preorder: &[u64], work: &mut [u16], c: usize)
-    requires { ⌜ (readEncoding (now s) ≡ Readable h) × (length (now work) ≡ 69636) × (c ≤ 1024) ⌝ }
-    ensures { λ _. ⌜ (checkPreorder (h .states) (now (preorder .entry)) ≡ Preorder → now (work .exit) ≡ judgeWaiting (ltsOf (now (s .entry))) (relationOf (h .states) (now (preorder .entry))) (now (work .entry)) c) ⌝ }
-    ensures { λ _. ⌜ SameWaiting (now (work .entry)) (now (work .exit)) ⌝ }
-{
-    let n = h.states;
-    let checked = relation::check_preorder(preorder, n);
-    if let relation::Checked::Refused(r) = checked {
-        return;
-    }
-    judge_loaded(s, h, preorder, work, c);
-}
-
-// The same where the encoding is readable.
-fn judge(s: &[u8], preorder: &[u64], work: &mut [u16], c: usize)
+// The same where the sheet and the start keep their rules; otherwise nothing is judged.
+fn judge(s: &[u8], start: &[u64], work: &mut [u16], c: usize)
     requires { ⌜ (length (now work) ≡ 69636) × (c ≤ 1024) ⌝ }
-    ensures { λ _. ⌜ Judges (now (s .entry)) (now (preorder .entry)) (now (work .entry)) c (now (work .exit)) ⌝ }
+    ensures { λ _. ⌜ Judges (now (s .entry)) (now (start .entry)) (now (work .entry)) c (now (work .exit)) ⌝ }
     ensures { λ _. ⌜ SameWaiting (now (work .entry)) (now (work .exit)) ⌝ }
 {
-    let reading = encoding::read_encoding(s);
+    let reading = inputs::read_inputs(s, start);
     if let encoding::Reading::Readable(h) = reading {
-        judge_readable(s, h, preorder, work, c);
+        judge_loaded(s, h, start, work, c);
     }
 }
 
@@ -268,26 +258,22 @@ fn put_waiting(work: &mut [u16], j: usize, e: lts::Entry)
 }
 
 // Takes entry i, and judges a part when it is whole.
-pub fn take_entry(s: &[u8], preorder: &[u64], work: &mut [u16], i: usize, e: lts::Entry)
+pub fn take_entry(s: &[u8], start: &[u64], work: &mut [u16], i: usize, e: lts::Entry)
     requires { ⌜ length (now work) ≡ 69636 ⌝ }
-    ensures { λ _. ⌜ TakesEntry (now (s .entry)) (now (preorder .entry)) (now (work .entry)) i e (now (work .exit)) ⌝ }
+    ensures { λ _. ⌜ TakesEntry (now (s .entry)) (now (start .entry)) (now (work .entry)) i e (now (work .exit)) ⌝ }
 {
     let j = i % 1024;
     put_waiting(&mut *work, j, e);
     if j == 1023 {
-        judge(s, preorder, work, 1024);
+        judge(s, start, work, 1024);
     }
 }
 
 // The answer where all of `count` entries are judged.
-fn answer(n: usize, preorder: &[u64], work: &[u16], count: usize) -> strategy::Verdict
-    requires { ⌜ (n ≤ 256) × (length (now work) ≡ 69636) ⌝ }
-    ensures { λ r. ⌜ r ≡ answered (checkPreorder n (now (preorder .entry))) (now (work .entry)) count ⌝ }
+fn answer(work: &[u16], count: usize) -> strategy::Verdict
+    requires { ⌜ length (now work) ≡ 69636 ⌝ }
+    ensures { λ r. ⌜ r ≡ verdictAt (now (work .entry)) count ⌝ }
 {
-    let checked = relation::check_preorder(preorder, n);
-    if let relation::Checked::Refused(r) = checked {
-        return strategy::Verdict::Refused(r);
-    }
     if (count == 0) | (work[65536] != 0) {
         return strategy::Verdict::Refused(lts::Refusal::Unsound);
     }
@@ -296,15 +282,14 @@ fn answer(n: usize, preorder: &[u64], work: &[u16], count: usize) -> strategy::V
 }
 
 // Check plan, after `count` entries were taken.
-pub fn conclude(s: &[u8], preorder: &[u64], work: &mut [u16], count: usize) -> strategy::Verdict
+pub fn conclude(s: &[u8], start: &[u64], work: &mut [u16], count: usize) -> strategy::Verdict
     requires { ⌜ length (now work) ≡ 69636 ⌝ }
-    ensures { λ r. ⌜ Concludes (now (s .entry)) (now (preorder .entry)) (now (work .entry)) count r ⌝ }
-    ensures { λ _. ⌜ Promised (now (s .entry)) (now (preorder .entry)) ⌝ }
+    ensures { λ r. ⌜ Concludes (now (s .entry)) (now (start .entry)) (now (work .entry)) count r ⌝ }
 {
-    judge(s, preorder, &mut *work, count % 1024);
-    let reading = encoding::read_encoding(s);
+    judge(s, start, &mut *work, count % 1024);
+    let reading = inputs::read_inputs(s, start);
     match reading {
         encoding::Reading::Refused(r) => strategy::Verdict::Refused(r),
-        encoding::Reading::Readable(h) => answer(h.states, preorder, &*work, count),
+        encoding::Reading::Readable(_) => answer(&*work, count),
     }
 }

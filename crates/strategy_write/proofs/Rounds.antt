@@ -14,7 +14,7 @@ use Rattle.lts.specs.Bounded.{restrict, concatBelow}
 use Rattle.lts.specs.System.{Rel, Lts, answered}
 use Rattle.lts.specs.Rounds.{round, refutedAt, refutationRound}
 use Rattle.lts.specs.declared.Entry.{Entry}
-use Rattle.lts.specs.Strategy.{numbersOf, entryAt, entriesIn, entriesBefore, strategyAt, strategy, strategyLength}
+use Rattle.lts.specs.Strategy.{entryNumbers, entryAt, entriesIn, entriesBefore, strategyAt, strategy, strategyLength}
 use Rattle.lts.specs.Table.{Table, tableLts}
 use Rattle.lts.proofs.Bounded.{restrict-at, restrict-same}
 use Rattle.lts.proofs.Strategy.{strategy-count}
@@ -117,22 +117,22 @@ module _ (n m k : ℕ) (sources actions targets : List ℕ) (preorder : Rel) whe
     room-last h e = let c = count in omega (arith, c, h, e)
 
     pub strategy-written : (d : List ℕ) {g x y : List ℕ} {at : ℕ} → g ≡ matrixOf n (previous L preorder r) → 4 * strategyLength L preorder p q ≤ length d
-        → at ≡ length (entriesBefore L preorder r) → x ≡ sets d 0 (numbersOf (entriesBefore L preorder r))
-        → y ≡ sets x (4 * at) (numbersOf (entryFrom L (eqb r 0) (restrict n (relationOf n g)) p q ∷ []))
-        → y ≡ numbersOf (strategy L preorder p q) ++ drop (4 * strategyLength L preorder p q) d
+        → at ≡ length (entriesBefore L preorder r) → x ≡ sets d 0 (entryNumbers (entriesBefore L preorder r))
+        → y ≡ sets x (4 * at) (entryNumbers (entryFrom L (eqb r 0) (restrict n (relationOf n g)) p q ∷ []))
+        → y ≡ entryNumbers (strategy L preorder p q) ++ drop (4 * strategyLength L preorder p q) d
     unfolding strategy strategyAt
     strategy-written d {g} {x} {y} {at} e room a b z =
         let es = entriesBefore L preorder r in
         let one = entryAt L preorder r p q ∷ [] in
         let size = length-numbers es in
-        let place : 4 * at ≡ 0 + length (numbersOf es) = omega (arith, a, size) in
+        let place : 4 * at ≡ 0 + length (entryNumbers es) = omega (arith, a, size) in
         let whole : es ++ one ≡ strategy L preorder p q = ap (λ (j : ℕ). entriesBefore L preorder j ++ (entryAt L preorder j p q ∷ [])) is in
-        let total : length (numbersOf (strategy L preorder p q)) ≡ 4 * strategyLength L preorder p q =
+        let total : length (entryNumbers (strategy L preorder p q)) ≡ 4 * strategyLength L preorder p q =
         length-numbers (strategy L preorder p q) ∙ ap (λ (c : ℕ). 4 * c) (strategy-count L (table-formed n m k sources actions targets ok) preorder p q) in
-        let fits : 0 + length (numbersOf (strategy L preorder p q)) ≤ length d = omega (arith, total, room) in
-        z ∙ ap (λ (v : Entry). sets x (4 * at) (numbersOf (v ∷ []))) (last-entry e)
-        ∙ ap₂ (λ (l : List ℕ) (i : ℕ). sets l i (numbersOf one)) b place
-        ∙ sets-append d 0 (numbersOf es) (numbersOf one)
-        ∙ ap (sets d 0) (sym (numbers-append es one) ∙ ap numbersOf whole)
-        ∙ sets-eq (numbersOf (strategy L preorder p q)) d 0 fits
-        ∙ ap (λ (i : ℕ). numbersOf (strategy L preorder p q) ++ drop i d) (let t : 0 + length (numbersOf (strategy L preorder p q)) ≡ 4 * strategyLength L preorder p q = omega (arith, total) in t)
+        let fits : 0 + length (entryNumbers (strategy L preorder p q)) ≤ length d = omega (arith, total, room) in
+        z ∙ ap (λ (v : Entry). sets x (4 * at) (entryNumbers (v ∷ []))) (last-entry e)
+        ∙ ap₂ (λ (l : List ℕ) (i : ℕ). sets l i (entryNumbers one)) b place
+        ∙ sets-append d 0 (entryNumbers es) (entryNumbers one)
+        ∙ ap (sets d 0) (sym (numbers-append es one) ∙ ap entryNumbers whole)
+        ∙ sets-eq (entryNumbers (strategy L preorder p q)) d 0 fits
+        ∙ ap (λ (i : ℕ). entryNumbers (strategy L preorder p q) ++ drop i d) (let t : 0 + length (entryNumbers (strategy L preorder p q)) ≡ 4 * strategyLength L preorder p q = omega (arith, total) in t)

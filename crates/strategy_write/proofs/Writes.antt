@@ -14,20 +14,20 @@ use Rattle.lts.specs.Table.{tableLts}
 use Rattle.lts.proofs.Bounded.{restrict-at}
 use Rattle.lts.specs.System.{Rel, Lts, answered}
 use Rattle.lts.specs.declared.Entry.{Entry}
-use Rattle.lts.specs.Strategy.{numbersOf}
+use Rattle.lts.specs.Strategy.{entryNumbers}
 use Rattle.relation.specs.Matrix.{inRow, rowWords, relationOf, Matrix}
 use Rattle.relation.proofs.Bounded.{clash, any-yes}
 use Rattle.relation.proofs.Checks.{rows-differ}
 use Rattle.rounds.specs.Rounds.{nextRound}
 use Rattle.strategy_write.specs.Writing.{Unanswered, Follows, entryFrom, cellEntries, rowEntries, roundEntries}
 
-pub numbers-append : (xs ys : List Entry) → numbersOf (xs ++ ys) ≡ numbersOf xs ++ numbersOf ys
-unfolding numbersOf
+pub numbers-append : (xs ys : List Entry) → entryNumbers (xs ++ ys) ≡ entryNumbers xs ++ entryNumbers ys
+unfolding entryNumbers
 numbers-append [] ys = refl
 numbers-append (x ∷ xs) ys = ap (λ (l : List ℕ). x .p ∷ x .q ∷ x .a ∷ x .t ∷ l) (numbers-append xs ys)
 
-pub length-numbers : (xs : List Entry) → length (numbersOf xs) ≡ 4 * length xs
-unfolding numbersOf
+pub length-numbers : (xs : List Entry) → length (entryNumbers xs) ≡ 4 * length xs
+unfolding entryNumbers
 length-numbers [] = refl
 length-numbers (x ∷ xs) = let h = length-numbers xs in omega (arith, h)
 
@@ -46,10 +46,10 @@ put-is l i p q a t =
 -- the lists f 0 .. f (c - 1) written from entry `first` on
 module _ (d : List ℕ) (first : ℕ) (f : ℕ → List Entry) where
   abbrev pub written : ℕ → List ℕ
-  written c = sets d (4 * first) (numbersOf (concatBelow c f))
+  written c = sets d (4 * first) (entryNumbers (concatBelow c f))
 
   pub written-none : d ≡ written 0
-  unfolding concatBelow numbersOf
+  unfolding concatBelow entryNumbers
   written-none = refl
 
   pub at-none : first ≡ first + length (concatBelow 0 f)
@@ -60,14 +60,14 @@ module _ (d : List ℕ) (first : ℕ) (f : ℕ → List Entry) where
   unfolding concatBelow
   at-more c a b = rw (add-one, length-append) (omega (arith, a, b))
 
-  pub written-more : (c : ℕ) {at : ℕ} {now next : List ℕ} → now ≡ written c → at ≡ first + length (concatBelow c f) → next ≡ sets now (4 * at) (numbersOf (f c)) → next ≡ written (c + 1)
+  pub written-more : (c : ℕ) {at : ℕ} {now next : List ℕ} → now ≡ written c → at ≡ first + length (concatBelow c f) → next ≡ sets now (4 * at) (entryNumbers (f c)) → next ≡ written (c + 1)
   unfolding concatBelow
   written-more c {at} {now} {next} a b e =
       let done = concatBelow c f in
       let size = length-numbers done in
-      let place : 4 * at ≡ 4 * first + length (numbersOf done) = omega (arith, b, size) in
-      e ∙ ap (λ (l : List ℕ). sets l (4 * at) (numbersOf (f c))) a ∙ ap (λ (j : ℕ). sets (sets d (4 * first) (numbersOf done)) j (numbersOf (f c))) place
-      ∙ sets-append d (4 * first) (numbersOf done) (numbersOf (f c)) ∙ ap (sets d (4 * first)) (sym (numbers-append done (f c))) ∙ ap written (sym (add-one c))
+      let place : 4 * at ≡ 4 * first + length (entryNumbers done) = omega (arith, b, size) in
+      e ∙ ap (λ (l : List ℕ). sets l (4 * at) (entryNumbers (f c))) a ∙ ap (λ (j : ℕ). sets (sets d (4 * first) (entryNumbers done)) j (entryNumbers (f c))) place
+      ∙ sets-append d (4 * first) (entryNumbers done) (entryNumbers (f c)) ∙ ap (sets d (4 * first)) (sym (numbers-append done (f c))) ∙ ap written (sym (add-one c))
 
   pub written-room : (c m : ℕ) {at : ℕ} → c < m → at ≡ first + length (concatBelow c f) → at + length (f c) ≤ first + length (concatBelow m f)
   unfolding concatBelow
@@ -86,21 +86,21 @@ module _ (d : List ℕ) (first : ℕ) (f : ℕ → List Entry) where
       → 4 * (at + length (f c)) ≤ length now
   room-next c m {at} {now} h b e room =
       let l = written-room c m h b in
-      let size : length now ≡ length d = ap length e ∙ length-sets d (4 * first) (numbersOf (concatBelow c f)) in
+      let size : length now ≡ length d = ap length e ∙ length-sets d (4 * first) (entryNumbers (concatBelow c f)) in
       omega (arith, l, size, room)
 
   pub same-size : (c : ℕ) {now : List ℕ} → now ≡ written c → length now ≡ length d
-  same-size c e = ap length e ∙ length-sets d (4 * first) (numbersOf (concatBelow c f))
+  same-size c e = ap length e ∙ length-sets d (4 * first) (entryNumbers (concatBelow c f))
 
 -- ---- one entry
 
-pub pair-first : (L : Lts) (W : Rel) (p q : ℕ) {initial : Bool} → initial ≡ true → p ∷ q ∷ 0 ∷ 0 ∷ [] ≡ numbersOf (entryFrom L initial W p q ∷ [])
-unfolding numbersOf entryFrom
+pub pair-first : (L : Lts) (W : Rel) (p q : ℕ) {initial : Bool} → initial ≡ true → p ∷ q ∷ 0 ∷ 0 ∷ [] ≡ entryNumbers (entryFrom L initial W p q ∷ [])
+unfolding entryNumbers entryFrom
 pair-first L W p q e = rw e
 
 pub pair-later : (L : Lts) (actions targets : List ℕ) (k : ℕ) (W : Rel) (p q r : ℕ) {initial : Bool} {x : ℕ} → initial ≡ false → Unanswered L actions targets k W p q r → x ≡ getD actions r 0
-    → p ∷ q ∷ x ∷ getD targets r 0 ∷ [] ≡ numbersOf (entryFrom L initial W p q ∷ [])
-unfolding numbersOf entryFrom
+    → p ∷ q ∷ x ∷ getD targets r 0 ∷ [] ≡ entryNumbers (entryFrom L initial W p q ∷ [])
+unfolding entryNumbers entryFrom
 pair-later L actions targets k W p q r e u x = rw (e, x, u .action, u .target)
 
 -- the entries of a pair that leaves B for A, and of one that does not
@@ -119,9 +119,9 @@ module _ (L : Lts) (initial : Bool) (B A : Rel) (p q : ℕ) where
   pub cell-none : (at : ℕ) → B p q && not (A p q) ≡ false → at ≡ at + length (cellEntries L initial B A p q)
   cell-none at e = let zero : at ≡ at + 0 = omega arith in zero ∙ ap (λ (l : List Entry). at + length l) (sym (cell-stays e))
 
-  pub cell-empty : (d : List ℕ) (i : ℕ) → B p q && not (A p q) ≡ false → d ≡ sets d i (numbersOf (cellEntries L initial B A p q))
-  unfolding numbersOf
-  cell-empty d i e = ap (λ (l : List Entry). sets d i (numbersOf l)) (sym (cell-stays e))
+  pub cell-empty : (d : List ℕ) (i : ℕ) → B p q && not (A p q) ≡ false → d ≡ sets d i (entryNumbers (cellEntries L initial B A p q))
+  unfolding entryNumbers
+  cell-empty d i e = ap (λ (l : List Entry). sets d i (entryNumbers l)) (sym (cell-stays e))
 
   -- a pair that leaves has no answer
   pub leaves-unanswered : Follows L initial B A → B p q && not (A p q) ≡ true → initial ≡ false → answered L B p q ≡ false
@@ -182,8 +182,8 @@ module _ (n m k : ℕ) (sources actions targets : List ℕ) (initial : Bool) (g 
           go (inr z) = z
           go (inl z) = absurd (clash (sym (any-yes n (λ q. xor (relationOf n g p q) (relationOf n h p q)) q l z)) equal)
 
-pub row-skips : (d : List ℕ) (first : ℕ) {es : List Entry} → es ≡ [] → (first ≡ first + length es) × (d ≡ sets d (4 * first) (numbersOf es))
-unfolding numbersOf
+pub row-skips : (d : List ℕ) (first : ℕ) {es : List Entry} → es ≡ [] → (first ≡ first + length es) × (d ≡ sets d (4 * first) (entryNumbers es))
+unfolding entryNumbers
 row-skips d first e =
     let zero : first ≡ first + 0 = omega arith in
-    (zero ∙ ap (λ (l : List Entry). first + length l) (sym e), ap (λ (l : List Entry). sets d (4 * first) (numbersOf l)) (sym e))
+    (zero ∙ ap (λ (l : List Entry). first + length l) (sym e), ap (λ (l : List Entry). sets d (4 * first) (entryNumbers l)) (sym e))

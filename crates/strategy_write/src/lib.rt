@@ -8,7 +8,7 @@ ghost use lib.Seq.{sets};
 ghost use Rattle.lts.specs.Bounded.{restrict};
 ghost use Rattle.lts.specs.System.{into, answered};
 ghost use Rattle.lts.specs.Rounds.{refutationRound};
-ghost use Rattle.lts.specs.Strategy.{numbersOf, entriesBefore, strategy, strategyLength};
+ghost use Rattle.lts.specs.Strategy.{entryNumbers, entriesBefore, strategy, strategyLength};
 ghost use Rattle.lts.specs.Table.{tableLts};
 ghost use Rattle.relation.specs.Matrix.{relationOf, matrixOf, Matrix};
 ghost use Rattle.strategy_write.specs.Writing.{Sorted, Unanswered, Follows, entryFrom, cellEntries, rowEntries, roundEntries, previous};
@@ -122,7 +122,7 @@ fn write_pair(
     at: usize,
 )
     requires { ⌜ Sorted n m k (now sources) (now actions) (now targets) (now offsets) × Matrix n (now before) × (p < n) × (q < n) × (initial ≡ false → answered (tableLts n m k (now sources) (now actions) (now targets)) (restrict n (relationOf n (now before))) p q ≡ false) × (4 * (at + 1) ≤ length (now numbers)) ⌝ }
-    ensures { λ _. ⌜ now (numbers .exit) ≡ sets (now (numbers .entry)) (4 * at) (numbersOf (entryFrom (tableLts n m k (now (sources .entry)) (now (actions .entry)) (now (targets .entry))) initial (restrict n (relationOf n (now (before .entry)))) p q ∷ [])) ⌝ }
+    ensures { λ _. ⌜ now (numbers .exit) ≡ sets (now (numbers .entry)) (4 * at) (entryNumbers (entryFrom (tableLts n m k (now (sources .entry)) (now (actions .entry)) (now (targets .entry))) initial (restrict n (relationOf n (now (before .entry)))) p q ∷ [])) ⌝ }
 {
     if initial {
         put_entry(numbers, at, p as u16, q as u16, 0, 0);
@@ -158,7 +158,7 @@ fn write_cell(
 ) -> usize
     requires { ⌜ Sorted n m k (now sources) (now actions) (now targets) (now offsets) × Matrix n (now before) × Matrix n (now after) × Follows (tableLts n m k (now sources) (now actions) (now targets)) initial (restrict n (relationOf n (now before))) (restrict n (relationOf n (now after))) × (p < n) × (q < n) × (4 * (at + length (cellEntries (tableLts n m k (now sources) (now actions) (now targets)) initial (restrict n (relationOf n (now before))) (restrict n (relationOf n (now after))) p q)) ≤ length (now numbers)) ⌝ }
     ensures { λ r. ⌜ r ≡ at + length (cellEntries (tableLts n m k (now (sources .entry)) (now (actions .entry)) (now (targets .entry))) initial (restrict n (relationOf n (now (before .entry)))) (restrict n (relationOf n (now (after .entry)))) p q) ⌝ }
-    ensures { λ r. ⌜ now (numbers .exit) ≡ sets (now (numbers .entry)) (4 * at) (numbersOf (cellEntries (tableLts n m k (now (sources .entry)) (now (actions .entry)) (now (targets .entry))) initial (restrict n (relationOf n (now (before .entry)))) (restrict n (relationOf n (now (after .entry)))) p q)) ⌝ }
+    ensures { λ r. ⌜ now (numbers .exit) ≡ sets (now (numbers .entry)) (4 * at) (entryNumbers (cellEntries (tableLts n m k (now (sources .entry)) (now (actions .entry)) (now (targets .entry))) initial (restrict n (relationOf n (now (before .entry)))) (restrict n (relationOf n (now (after .entry)))) p q)) ⌝ }
 {
     let w = (n + 63) / 64;
     if relation::has(before, w, p, q) & !relation::has(after, w, p, q) {
@@ -200,7 +200,7 @@ fn write_row(
 ) -> usize
     requires { ⌜ Sorted n m k (now sources) (now actions) (now targets) (now offsets) × Matrix n (now before) × Matrix n (now after) × Follows (tableLts n m k (now sources) (now actions) (now targets)) initial (restrict n (relationOf n (now before))) (restrict n (relationOf n (now after))) × (p < n) × (4 * (first + length (rowEntries (tableLts n m k (now sources) (now actions) (now targets)) initial (restrict n (relationOf n (now before))) (restrict n (relationOf n (now after))) p)) ≤ length (now numbers)) ⌝ }
     ensures { λ r. ⌜ r ≡ first + length (rowEntries (tableLts n m k (now (sources .entry)) (now (actions .entry)) (now (targets .entry))) initial (restrict n (relationOf n (now (before .entry)))) (restrict n (relationOf n (now (after .entry)))) p) ⌝ }
-    ensures { λ r. ⌜ now (numbers .exit) ≡ sets (now (numbers .entry)) (4 * first) (numbersOf (rowEntries (tableLts n m k (now (sources .entry)) (now (actions .entry)) (now (targets .entry))) initial (restrict n (relationOf n (now (before .entry)))) (restrict n (relationOf n (now (after .entry)))) p)) ⌝ }
+    ensures { λ r. ⌜ now (numbers .exit) ≡ sets (now (numbers .entry)) (4 * first) (entryNumbers (rowEntries (tableLts n m k (now (sources .entry)) (now (actions .entry)) (now (targets .entry))) initial (restrict n (relationOf n (now (before .entry)))) (restrict n (relationOf n (now (after .entry)))) p)) ⌝ }
 {
     let mut at = first;
     let mut q = 0;
@@ -244,7 +244,7 @@ fn write_changed_row(
 ) -> usize
     requires { ⌜ Sorted n m k (now sources) (now actions) (now targets) (now offsets) × Matrix n (now before) × Matrix n (now after) × Follows (tableLts n m k (now sources) (now actions) (now targets)) initial (restrict n (relationOf n (now before))) (restrict n (relationOf n (now after))) × (p < n) × (4 * (first + length (rowEntries (tableLts n m k (now sources) (now actions) (now targets)) initial (restrict n (relationOf n (now before))) (restrict n (relationOf n (now after))) p)) ≤ length (now numbers)) ⌝ }
     ensures { λ r. ⌜ r ≡ first + length (rowEntries (tableLts n m k (now (sources .entry)) (now (actions .entry)) (now (targets .entry))) initial (restrict n (relationOf n (now (before .entry)))) (restrict n (relationOf n (now (after .entry)))) p) ⌝ }
-    ensures { λ r. ⌜ now (numbers .exit) ≡ sets (now (numbers .entry)) (4 * first) (numbersOf (rowEntries (tableLts n m k (now (sources .entry)) (now (actions .entry)) (now (targets .entry))) initial (restrict n (relationOf n (now (before .entry)))) (restrict n (relationOf n (now (after .entry)))) p)) ⌝ }
+    ensures { λ r. ⌜ now (numbers .exit) ≡ sets (now (numbers .entry)) (4 * first) (entryNumbers (rowEntries (tableLts n m k (now (sources .entry)) (now (actions .entry)) (now (targets .entry))) initial (restrict n (relationOf n (now (before .entry)))) (restrict n (relationOf n (now (after .entry)))) p)) ⌝ }
 {
     let w = (n + 63) / 64;
     if relation::row_differs(
@@ -288,7 +288,7 @@ fn write_round(
 ) -> usize
     requires { ⌜ Sorted n m k (now sources) (now actions) (now targets) (now offsets) × Matrix n (now before) × Matrix n (now after) × Follows (tableLts n m k (now sources) (now actions) (now targets)) initial (restrict n (relationOf n (now before))) (restrict n (relationOf n (now after))) × (4 * (first + length (roundEntries (tableLts n m k (now sources) (now actions) (now targets)) initial (restrict n (relationOf n (now before))) (restrict n (relationOf n (now after))))) ≤ length (now numbers)) ⌝ }
     ensures { λ r. ⌜ r ≡ first + length (roundEntries (tableLts n m k (now (sources .entry)) (now (actions .entry)) (now (targets .entry))) initial (restrict n (relationOf n (now (before .entry)))) (restrict n (relationOf n (now (after .entry))))) ⌝ }
-    ensures { λ r. ⌜ now (numbers .exit) ≡ sets (now (numbers .entry)) (4 * first) (numbersOf (roundEntries (tableLts n m k (now (sources .entry)) (now (actions .entry)) (now (targets .entry))) initial (restrict n (relationOf n (now (before .entry)))) (restrict n (relationOf n (now (after .entry)))))) ⌝ }
+    ensures { λ r. ⌜ now (numbers .exit) ≡ sets (now (numbers .entry)) (4 * first) (entryNumbers (roundEntries (tableLts n m k (now (sources .entry)) (now (actions .entry)) (now (targets .entry))) initial (restrict n (relationOf n (now (before .entry)))) (restrict n (relationOf n (now (after .entry)))))) ⌝ }
 {
     let mut at = first;
     let mut p = 0;
@@ -331,7 +331,7 @@ fn write_rounds(
     requires { ⌜ Sorted n m k (now sources) (now actions) (now targets) (now offsets) × Matrix n (now next) × (now current ≡ matrixOf n (λ p q. true)) × (4 * length (entriesBefore (tableLts n m k (now sources) (now actions) (now targets)) (relationOf n (now next)) rounds) ≤ length (now numbers)) ⌝ }
     ensures { λ r. ⌜ r ≡ length (entriesBefore (tableLts n m k (now (sources .entry)) (now (actions .entry)) (now (targets .entry))) (relationOf n (now (next .entry))) rounds) ⌝ }
     ensures { λ r. ⌜ now (current .exit) ≡ matrixOf n (previous (tableLts n m k (now (sources .entry)) (now (actions .entry)) (now (targets .entry))) (relationOf n (now (next .entry))) rounds) ⌝ }
-    ensures { λ r. ⌜ now (numbers .exit) ≡ sets (now (numbers .entry)) 0 (numbersOf (entriesBefore (tableLts n m k (now (sources .entry)) (now (actions .entry)) (now (targets .entry))) (relationOf n (now (next .entry))) rounds)) ⌝ }
+    ensures { λ r. ⌜ now (numbers .exit) ≡ sets (now (numbers .entry)) 0 (entryNumbers (entriesBefore (tableLts n m k (now (sources .entry)) (now (actions .entry)) (now (targets .entry))) (relationOf n (now (next .entry))) rounds)) ⌝ }
 {
     let mut settled = [0u64; 4];
     let mut at = 0;
@@ -377,7 +377,7 @@ fn write_from(
     numbers: &mut [u16],
 )
     requires { ⌜ Sorted n m k (now sources) (now actions) (now targets) (now offsets) × Matrix n (now preorder) × (p < n) × (q < n) × (round ≡ refutationRound (tableLts n m k (now sources) (now actions) (now targets)) (relationOf n (now preorder)) p q) × (round ≤ n * n) × (4 * strategyLength (tableLts n m k (now sources) (now actions) (now targets)) (relationOf n (now preorder)) p q ≤ length (now numbers)) × (length (now current) ≡ length (now preorder)) × (length (now preorder) ≡ length (now next)) ⌝ }
-    ensures { λ _. ⌜ now (numbers .exit) ≡ numbersOf (strategy (tableLts n m k (now (sources .entry)) (now (actions .entry)) (now (targets .entry))) (relationOf n (now (preorder .entry))) p q) ++ drop (4 * strategyLength (tableLts n m k (now (sources .entry)) (now (actions .entry)) (now (targets .entry))) (relationOf n (now (preorder .entry))) p q) (now (numbers .entry)) ⌝ }
+    ensures { λ _. ⌜ now (numbers .exit) ≡ entryNumbers (strategy (tableLts n m k (now (sources .entry)) (now (actions .entry)) (now (targets .entry))) (relationOf n (now (preorder .entry))) p q) ++ drop (4 * strategyLength (tableLts n m k (now (sources .entry)) (now (actions .entry)) (now (targets .entry))) (relationOf n (now (preorder .entry))) p q) (now (numbers .entry)) ⌝ }
 {
     relation::write_all_pairs(n, current);
     relation::copy_matrix(next, preorder);
@@ -427,7 +427,7 @@ pub fn write_table(
     numbers: &mut [u16],
 )
     requires { ⌜ Sorted n m k (now sources) (now actions) (now targets) (now offsets) × Matrix n (now preorder) × (p < n) × (q < n) × (round ≡ refutationRound (tableLts n m k (now sources) (now actions) (now targets)) (relationOf n (now preorder)) p q) × (round ≤ n * n) × (4 * strategyLength (tableLts n m k (now sources) (now actions) (now targets)) (relationOf n (now preorder)) p q ≤ length (now numbers)) ⌝ }
-    ensures { λ _. ⌜ now (numbers .exit) ≡ numbersOf (strategy (tableLts n m k (now (sources .entry)) (now (actions .entry)) (now (targets .entry))) (relationOf n (now (preorder .entry))) p q) ++ drop (4 * strategyLength (tableLts n m k (now (sources .entry)) (now (actions .entry)) (now (targets .entry))) (relationOf n (now (preorder .entry))) p q) (now (numbers .entry)) ⌝ }
+    ensures { λ _. ⌜ now (numbers .exit) ≡ entryNumbers (strategy (tableLts n m k (now (sources .entry)) (now (actions .entry)) (now (targets .entry))) (relationOf n (now (preorder .entry))) p q) ++ drop (4 * strategyLength (tableLts n m k (now (sources .entry)) (now (actions .entry)) (now (targets .entry))) (relationOf n (now (preorder .entry))) p q) (now (numbers .entry)) ⌝ }
 {
     let size = preorder.len();
     let mut current = [0u64; 1024];

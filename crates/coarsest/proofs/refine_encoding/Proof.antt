@@ -1,9 +1,7 @@
-use mathlib.Core.Path.{ap, _∙_}
+use mathlib.Core.Path.{_∙_}
 use denote.Ref.{now}
-use Rattle.coarsest.specs.declared.Counts.{Counts}
-use Rattle.coarsest.specs.declared.Answer.{Answer}
-use Rattle.coarsest.specs.declared.Answer.the-variants.{Done}
-use Rattle.coarsest.proofs.Laws.{start-of, refined-answer, refined-grid, refined-names}
+use Rattle.relation.specs.Matrix.{relationOf}
+use Rattle.coarsest.proofs.Laws.{start-of, refined-terminating}
 use borrow.Author.Needs.{needs}
 use Rattle.coarsest.proofs.refine_encoding.Statement.{statement}
 use Rattle.coarsest.proofs.refine_encoding.Tie as tie
@@ -22,7 +20,7 @@ refine-table-requires c κs =
     let start = c .before .before .before .before .before .before .before .before .before .before .before .before .before .before .before .before in
     let a = start .args in
     let loaded = c .before .before .before .before .before .load .ensures in
-    (loaded .table, start-of (a .h .states) (now (a .start)) (start .pre .0 .1), start .pre .1 .1, start .pre .1 .0)
+    (loaded .table, start-of (a .h .states) (now (a .start)) (start .pre .0 .checked), start .pre .1 .1, start .pre .1 .0)
 
 -- src/lib.rt:146:1
 same-length : tie.Need-same-length
@@ -37,14 +35,8 @@ returns : tie.Need-returns
 returns c =
     let start = c .before .before .before .before .before .before .before .before .before .before .before .before .before .before .before .before .before .before .before .before .before in
     let a = start .args in
-    let loaded = c .before .before .before .before .before .before .before .before .before .before .load .ensures in
-    let got = c .before .before .before .before .refine-table .ensures in (
-      ap Done (got .0) ∙ refined-answer (now (a .s)) (a .h .states) (now (a .start)) (now (a .schedule)) _ _ (loaded .same),
-      (
-        got .1 .0 ∙ refined-grid (now (a .s)) (a .h .states) (now (a .start)) (now (a .schedule)) _ _ (loaded .same),
-        got .1 .1 ∙ refined-names (now (a .s)) (a .h .states) (now (a .start)) (now (a .schedule)) _ _ (loaded .same),
-      ),
-    )
+    let same = c .before .before .before .before .before .before .before .before .before .before .load .ensures .same in
+    rw same (refined-terminating _ _ (relationOf (a .h .states) (now (a .start))) (now (a .schedule)) ∙ c .before .before .before .before .refine-table .ensures)
 
 pub refine-encoding-spec : {M : Type 1} → statement M
 refine-encoding-spec =

@@ -1,6 +1,6 @@
 use denote.Ref.{now}
 use Rattle.relation.proofs.Matrices.{formed-of}
-use Rattle.coarsest.proofs.Laws.{table-reflexive, table-counts, table-names}
+use Rattle.coarsest.proofs.Laws.{table-reflexive, table-refined}
 use borrow.Author.Needs.{needs}
 use Rattle.coarsest.proofs.refine_in.Statement.{statement}
 use Rattle.coarsest.proofs.refine_in.Tie as tie
@@ -69,7 +69,8 @@ returns c =
     let tab = start .pre .0 .0 in
     let st = start .pre .0 .1 in
     let run = c .before .before .before .before .before .before .before .before .before .before .before .before .before .before .before .refine-all .ensures in
-    (table-counts (a .n) (a .m) (a .k) (now (a .sources)) (now (a .actions)) (now (a .targets)) tab (now (a .start)) st (now (a .schedule)) _ _ (run .1 .0) (run .1 .1) (run .0) (c .before .before .count-pairs .ensures) (c .count-blocks .ensures), (run .1 .0, table-names (a .n) (a .m) (a .k) (now (a .sources)) (now (a .actions)) (now (a .targets)) tab (now (a .start)) st (now (a .schedule)) _ _ (run .1 .0) (run .1 .1) _ (c .before .before .before .before .before .before .write-names .ensures)))
+    table-refined (a .n) (a .m) (a .k) (now (a .sources)) (now (a .actions)) (now (a .targets)) tab (now (a .start)) st (now (a .schedule)) _ _ (run .1 .0) (run .1 .1)
+    (run .0) (c .before .before .count-pairs .ensures) (c .count-blocks .ensures) (c .before .before .before .before .before .before .write-names .ensures)
 
 pub refine-in-spec : {M : Type 1} → statement M
 refine-in-spec =

@@ -1,4 +1,4 @@
--- `comparison::append_bytes` meets its contract: the loop has written the first i bytes. Assumes nothing.
+-- `comparison::append_bytes` meets its contract: the loop has written the first i bytes.
 use Prim.Native.Nat.{_≤_, _-_}
 use native.Mathlib.Omega.{arith}
 use Rattle.comparison.specs.Join.{Appended}

@@ -1,4 +1,4 @@
--- `comparison::append_states` meets its contract: the loop has written the first i states, raised by n. Assumes nothing.
+-- `comparison::append_states` meets its contract: the loop has written the first i states, raised by n.
 use Prim.Native.Nat.{_≤_, _-_}
 use mathlib.Core.Path.{_≡_}
 use native.Mathlib.Omega.{arith}

@@ -1,4 +1,4 @@
--- `comparison::append_system` meets its contract: the table of an encoding after another is that of the disjoint union. Assumes nothing.
+-- `comparison::append_system` meets its contract: the table of an encoding after another is that of the disjoint union.
 use native.Mathlib.Omega.{arith}
 use Rattle.comparison.proofs.Join.{joined}
 use borrow.Author.Needs.{needs}

@@ -1,6 +1,6 @@
--- `comparison::compare_joined` meets its contract: the joined table is that of the disjoint union. Assumes nothing.
+-- `comparison::compare_joined` meets its contract: the joined table is that of the disjoint union.
 use native.Mathlib.Omega.{arith}
-use Rattle.comparison.proofs.Runs.{joined-answer, joined-table}
+use Rattle.comparison.proofs.Runs.{joined-reply, joined-table}
 use borrow.Author.Needs.{needs}
 use Rattle.comparison.proofs.compare_joined.Statement.{statement}
 use Rattle.comparison.proofs.compare_joined.Tie as tie
@@ -24,7 +24,7 @@ append-system-requires : tie.Need-append-system-requires
 append-system-requires c κs =
     let l = c .before .before .before .before .load .ensures in
     let p = c .before .before .before .before .before .before .before .before .before .before .before .before .pre in
-    ((p .1, record { table = l .table; marks-long = l .buffers .marks; sources-long = l .buffers .sources; actions-long = l .buffers .actions; targets-long = l .buffers .targets }), (p .2, p .3))
+    ((p .0 .1, record { table = l .table; marks-long = l .buffers .marks; sources-long = l .buffers .sources; actions-long = l .buffers .actions; targets-long = l .buffers .targets }), p .1)
 
 add-states : tie.Need-add-states
 add-states c = search needs
@@ -38,10 +38,10 @@ larger-requires c κs = search needs
 compare-table-requires : tie.Need-compare-table-requires
 compare-table-requires c κs =
     let p = c .before .before .before .before .before .before .before .before .before .before .before .before .before .before .before .before .before .before .before .before .before .before .before .before .pre in
-    (joined-table (c .before .before .before .before .larger .ensures) (c .before .before .before .before .before .before .before .before .before .before .before .append-system .ensures), omega (arith, p .1 .recorded .sized .bounds .state))
+    (joined-table (c .before .before .before .before .larger .ensures) (c .before .before .before .before .before .before .before .before .before .before .before .append-system .ensures), omega (arith, p .0 .1 .recorded .sized .bounds .state))
 
 returns : tie.Need-returns
-returns c = joined-answer _ (c .before .before .before .before .before .larger .ensures) (c .before .before .before .before .before .before .before .before .before .before .before .before .append-system .ensures) (c .before .before .before .before .before .before .before .before .before .before .before .before .before .before .before .before .before .load .ensures .same) (c .compare-table .ensures)
+returns c = joined-reply _ (c .before .before .before .before .before .larger .ensures) (c .before .before .before .before .before .before .before .before .before .before .before .before .append-system .ensures) (c .before .before .before .before .before .before .before .before .before .before .before .before .before .before .before .before .before .load .ensures .same) (c .compare-table .ensures)
 
 pub compare-joined-spec : {M : Type 1} → statement M
 compare-joined-spec =

@@ -1,8 +1,4 @@
--- `comparison::compare_readable` meets its contract: refusal 7, or the answer of the run. Assumes nothing.
-use mathlib.Core.Path.{_∙_}
-use borrow.Author.Tests.{not-true, not-false}
-use Rattle.comparison.specs.Call.{fits}
-use Rattle.comparison.proofs.Runs.{union-answer}
+-- `comparison::compare_readable` meets its contract: refusal 7, or the reply of the run.
 use Rattle.comparison.proofs.Answers.{too-large, fitting, fits-room}
 use borrow.Author.Needs.{needs}
 use Rattle.comparison.proofs.compare_readable.Statement.{statement}
@@ -15,20 +11,16 @@ add-if1-2 : tie.Need-add-if1-2
 add-if1-2 c = search needs
 
 returns : tie.Need-returns
-unfolding fits
-returns c = too-large _ _ _ _ (not-true _ (c .if1 .taken))
+returns c = too-large _ _ _ (c .if1 .taken)
 
 compare-joined-requires : tie.Need-compare-joined-requires
-unfolding fits
 compare-joined-requires c κs =
-    let p = c .before .before .before .before .before .before .before .pre in
-    let a = c .before .before .before .before .before .before .before .args in
-    let room = fits-room (a .h) (a .g) (not-false _ (c .if1 .left)) in
-    (p .0, p .1, room .0, room .1)
+    let s = c .before .before .before .before .before .before .before in
+    let room = fits-room (s .args .h) (s .args .g) (c .if1 .left) in
+    (s .pre, (room .0, room .1))
 
 returns-2 : tie.Need-returns-2
-unfolding fits
-returns-2 c = fitting _ _ _ _ (not-false _ (c .before .if1 .left)) (c .compare-joined .ensures ∙ union-answer _ _ _ (c .before .before .before .before .before .before .before .before .pre .0))
+returns-2 c = fitting _ _ (c .before .if1 .left) (c .compare-joined .ensures)
 
 pub compare-readable-spec : {M : Type 1} → statement M
 compare-readable-spec =

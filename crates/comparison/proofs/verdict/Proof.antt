@@ -1,14 +1,14 @@
--- `comparison::verdict` meets its contract. Assumes nothing.
-use Rattle.comparison.specs.Call.{answer}
+-- `comparison::verdict` meets its contract.
+use Rattle.comparison.specs.Call.{compareReply}
 use Rattle.comparison.proofs.verdict.Statement.{statement}
 use Rattle.comparison.proofs.verdict.Tie as tie
 
 returns : tie.Need-returns
-unfolding answer
+unfolding compareReply
 returns c = rw (c .if1 .taken)
 
 returns-2 : tie.Need-returns-2
-unfolding answer
+unfolding compareReply
 returns-2 c = rw (c .if1 .left)
 
 pub verdict-spec : {M : Type 1} → statement M

@@ -1,32 +1,39 @@
--- `encoding::read_encoding` meets its contract: what is left of `readEncoding` after each check, and with it what the next one asks.
+-- `encoding::read_encoding` meets its contract: what is left of the rules after each check, and what the next check asks.
 use borrow.Author.Needs.{needs}
 use mathlib.Core.Path.{_≡_, refl, sym, _∙_}
-use borrow.Author.Tests.{eq-eqb, ne-eqb, not-false}
-use Rattle.encoding.specs.Encoding.{readEncoding}
+use borrow.Author.Tests.{eq-eqb, ne-eqb, le-leb, lt-leb, not-false}
+use Rattle.lts.proofs.Rule.{stop, pass, done}
+use Rattle.encoding.specs.Encoding.{headedRules}
 use Rattle.encoding.specs.Checked.{Bounds, Sized, Recorded}
-use Rattle.encoding.proofs.Reader.{in-range, stop, pass, start, short, fromRange, fromLength, fromStates, fromTransitions, fromChains, fromSuccessors}
+use Rattle.encoding.proofs.Laws.{read-meets}
+use Rattle.encoding.proofs.Reader.{ReadTo, in-range, headed, sheet-refused, sheet-passed}
 use Rattle.encoding.proofs.read_encoding.Statement.{statement}
 use Rattle.encoding.proofs.read_encoding.Tie as tie
 
--- what is left to be read after each check, and what the checks so far have shown
-after-1 : (c : tie.After-read) → readEncoding (c .before .before .before .args .s .now) ≡ fromRange (c .before .before .before .args .s .now) (c .read .result)
-after-1 c = start _ _ (c .before .if1 .left) (c .read .ensures)
+-- after the first k checks: what all the rules come to is what is left of them, with the header that was read
+after-1 : (c : tie.After-read) → ReadTo (c .before .before .before .args .s .now) 1 (c .read .result)
+unfolding headedRules
+after-1 c = pass _ _ _ (headed _ (c .read .ensures)) (sym (le-leb _ _ (c .before .if1 .left))) refl
 
-after-2 : (c : tie.Else2) → (readEncoding (c .before .before .before .before .before .args .s .now) ≡ fromLength (c .before .before .before .before .before .args .s .now) (c .before .before .read .result)) × Bounds (c .before .before .read .result)
+after-2 : (c : tie.Else2) → ReadTo (c .before .before .before .before .before .args .s .now) 2 (c .before .before .read .result) × Bounds (c .before .before .read .result)
+unfolding headedRules
 after-2 c =
     let e = c .before .in-range .ensures in
     (pass _ _ _ (after-1 (c .before .before)) e (c .if2 .left), in-range _ (sym e ∙ not-false _ (c .if2 .left)))
 
-after-3 : (c : tie.Else3) → (readEncoding (c .before .before .before .before .before .before .before .args .s .now) ≡ fromStates (c .before .before .before .before .before .before .before .args .s .now) (c .before .before .before .before .read .result)) × Sized (c .before .before .before .before .before .before .before .args .s .now) (c .before .before .before .before .read .result)
+after-3 : (c : tie.Else3) → ReadTo (c .before .before .before .before .before .before .before .args .s .now) 3 (c .before .before .before .before .read .result) × Sized (c .before .before .before .before .before .before .before .args .s .now) (c .before .before .before .before .read .result)
+unfolding headedRules
 after-3 c =
     let p = after-2 (c .before .before) in
     let e = c .if3 .left ∙ c .before .length .ensures in
     (pass _ _ _ (p .0) (sym (eq-eqb _ _ e)) refl, record { bounds = p .1; long = e })
 
-after-4 : (c : tie.Else4) → (readEncoding (c .before .before .before .before .before .before .before .before .before .args .s .now) ≡ fromTransitions (c .before .before .before .before .before .before .before .before .before .args .s .now) (c .before .before .before .before .before .before .read .result)) × Sized (c .before .before .before .before .before .before .before .before .before .args .s .now) (c .before .before .before .before .before .before .read .result)
+after-4 : (c : tie.Else4) → ReadTo (c .before .before .before .before .before .before .before .before .before .args .s .now) 4 (c .before .before .before .before .before .before .read .result) × Sized (c .before .before .before .before .before .before .before .before .before .args .s .now) (c .before .before .before .before .before .before .read .result)
+unfolding headedRules
 after-4 c = let p = after-3 (c .before .before) in (pass _ _ _ (p .0) (c .before .states-fit .ensures) (c .if4 .left), p .1)
 
-after-5 : (c : tie.Else5) → (readEncoding (c .before .before .before .before .before .before .before .before .before .before .before .args .s .now) ≡ fromChains (c .before .before .before .before .before .before .before .before .before .before .before .args .s .now) (c .before .before .before .before .before .before .before .before .read .result)) × Recorded (c .before .before .before .before .before .before .before .before .before .before .before .args .s .now) (c .before .before .before .before .before .before .before .before .read .result)
+after-5 : (c : tie.Else5) → ReadTo (c .before .before .before .before .before .before .before .before .before .before .before .args .s .now) 5 (c .before .before .before .before .before .before .before .before .read .result) × Recorded (c .before .before .before .before .before .before .before .before .before .before .before .args .s .now) (c .before .before .before .before .before .before .before .before .read .result)
+unfolding headedRules
 after-5 c =
     let p = after-4 (c .before .before) in
     let e = c .before .transitions-fit .ensures in (
@@ -38,11 +45,13 @@ after-5 c =
       },
     )
 
-after-6 : (c : tie.Else6) → (readEncoding (c .before .before .before .before .before .before .before .before .before .before .before .before .before .args .s .now) ≡ fromSuccessors (c .before .before .before .before .before .before .before .before .before .before .before .before .before .args .s .now) (c .before .before .before .before .before .before .before .before .before .before .read .result)) × Recorded (c .before .before .before .before .before .before .before .before .before .before .before .before .before .args .s .now) (c .before .before .before .before .before .before .before .before .before .before .read .result)
+after-6 : (c : tie.Else6) → ReadTo (c .before .before .before .before .before .before .before .before .before .before .before .before .before .args .s .now) 6 (c .before .before .before .before .before .before .before .before .before .before .read .result) × Recorded (c .before .before .before .before .before .before .before .before .before .before .before .before .before .args .s .now) (c .before .before .before .before .before .before .before .before .before .before .read .result)
+unfolding headedRules
 after-6 c = let p = after-5 (c .before .before) in (pass _ _ _ (p .0) (c .before .chains-fit .ensures) (c .if6 .left), p .1)
 
 returns : tie.Need-returns
-returns c = short _ (c .if1 .taken)
+unfolding headedRules
+returns c = read-meets _ (sheet-refused _ (stop _ _ _ (headed _ refl) (sym (lt-leb _ _ (c .if1 .taken))) refl))
 
 read-requires : tie.Need-read-requires
 read-requires c κs = search needs
@@ -51,40 +60,49 @@ in-range-requires : tie.Need-in-range-requires
 in-range-requires c κs = search needs
 
 returns-2 : tie.Need-returns-2
-returns-2 c = stop _ _ _ (after-1 (c .before .before)) (c .before .in-range .ensures) (c .if2 .taken)
+unfolding headedRules
+returns-2 c = read-meets _ (sheet-refused _ (stop _ _ _ (after-1 (c .before .before)) (c .before .in-range .ensures) (c .if2 .taken)))
 
 length-requires : tie.Need-length-requires
 length-requires c κs = after-2 c .1
 
 returns-3 : tie.Need-returns-3
-returns-3 c = stop _ _ _ (after-2 (c .before .before) .0) (sym (ne-eqb _ _ (λ e. c .if3 .taken (e ∙ sym (c .before .length .ensures))))) refl
+unfolding headedRules
+returns-3 c = read-meets _ (sheet-refused _ (stop _ _ _ (after-2 (c .before .before) .0) (sym (ne-eqb _ _ (λ e. c .if3 .taken (e ∙ sym (c .before .length .ensures))))) refl))
 
 states-fit-requires : tie.Need-states-fit-requires
 states-fit-requires c κs = after-3 c .1
 
 returns-4 : tie.Need-returns-4
-returns-4 c = stop _ _ _ (after-3 (c .before .before) .0) (c .before .states-fit .ensures) (c .if4 .taken)
+unfolding headedRules
+returns-4 c = read-meets _ (sheet-refused _ (stop _ _ _ (after-3 (c .before .before) .0) (c .before .states-fit .ensures) (c .if4 .taken)))
 
 transitions-fit-requires : tie.Need-transitions-fit-requires
 transitions-fit-requires c κs = after-4 c .1
 
 returns-5 : tie.Need-returns-5
-returns-5 c = stop _ _ _ (after-4 (c .before .before) .0) (c .before .transitions-fit .ensures) (c .if5 .taken)
+unfolding headedRules
+returns-5 c = read-meets _ (sheet-refused _ (stop _ _ _ (after-4 (c .before .before) .0) (c .before .transitions-fit .ensures) (c .if5 .taken)))
 
 chains-fit-requires : tie.Need-chains-fit-requires
 chains-fit-requires c κs = after-5 c .1
 
 returns-6 : tie.Need-returns-6
-returns-6 c = stop _ _ _ (after-5 (c .before .before) .0) (c .before .chains-fit .ensures) (c .if6 .taken)
+unfolding headedRules
+returns-6 c = read-meets _ (sheet-refused _ (stop _ _ _ (after-5 (c .before .before) .0) (c .before .chains-fit .ensures) (c .if6 .taken)))
 
 successors-fit-requires : tie.Need-successors-fit-requires
 successors-fit-requires c κs = after-6 c .1
 
 returns-7 : tie.Need-returns-7
-returns-7 c = stop _ _ _ (after-6 (c .before .before) .0) (c .before .successors-fit .ensures) (c .if7 .taken)
+unfolding headedRules
+returns-7 c = read-meets _ (sheet-refused _ (stop _ _ _ (after-6 (c .before .before) .0) (c .before .successors-fit .ensures) (c .if7 .taken)))
 
 returns-8 : tie.Need-returns-8
-returns-8 c = sym (pass _ _ _ (after-6 (c .before .before) .0) (c .before .successors-fit .ensures) (c .if7 .left))
+unfolding headedRules
+returns-8 c =
+    let h = c .before .before .before .before .before .before .before .before .before .before .before .before .read .ensures in
+    read-meets _ (sheet-passed _ h (done (pass _ _ _ (after-6 (c .before .before) .0) (c .before .successors-fit .ensures) (c .if7 .left))))
 
 pub read-encoding-spec : {M : Type 1} → statement M
 read-encoding-spec =

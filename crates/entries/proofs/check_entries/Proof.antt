@@ -50,11 +50,10 @@ use denote.Triple.Table.{entered, cited}
 use denote.Triple.Walked.{says, Stays, stay-none-slice, onExit, walkOf, goes-none-slice, Walks, ends-at, walked, walk-meets}
 use denote.Exit.{yes}
 use Rattle.lts.specs.declared.Entry.{Entry}
-use Rattle.lts.specs.Strategy.{numbersOf}
 use Rattle.lts.proofs.Entry.Laws as T′
 use Rattle.strategy.specs.declared.Verdict.{Verdict}
-use Rattle.strategy.specs.Check.{checkStrategy}
-use Rattle.strategy.specs.Demand.{Promised}
+use Rattle.strategy.specs.Check.{checkReply, checkCall, CheckPromise}
+use Rattle.strategy.proofs.Promise.{check-promised}
 use Rattle.strategy.proofs.Verdict as N
 use Rattle.strategy.proofs.Verdict.Laws as N′
 use Rattle.strategy_parts.specs.Parts.{TakesEntry, Concludes}
@@ -182,16 +181,19 @@ module _ {M : Type 1} (𝓤 : URA M) (H : Heap 𝓤) (A : Atoms 𝓤) (W : Given
   State = Turn (x₀ .now) (x₁ .now) es
 
   abbrev Right : Verdict → Type 0
-  Right r = r ≡ checkStrategy (x₀ .now) (x₁ .now) (numbersOf es)
+  Right r = checkCall (x₀ .now) (x₁ .now) es ≡ checkReply r
 
-  exits : (r : Verdict) (u : Val) → Right r → Promised (x₀ .now) (x₁ .now)
+  abbrev Promised : Verdict → Type 0
+  Promised r = CheckPromise (x₀ .now) (x₁ .now) es (checkReply r)
+
+  exits : (r : Verdict) (u : Val) → Right r
       → ent 𝓤 (⋆ 𝓤 H A (‵ (N.the-row .own r (u ∷ [])) ∷ ‵ (flft κ₀ q₀) ∷ ‵ (flft κ₁ q₁) ∷ ‵ (flft κ q) ∷ ‵ Enc ∷ ‵ Pre ∷ ‵ Plan ∷ [])) (Post u)
-  exits r u right promise =
+  exits r u right =
       qed W (‵ (N.the-row .own r (u ∷ [])) ∷ ‵ (flft κ₀ q₀) ∷ ‵ (flft κ₁ q₁) ∷ ‵ (flft κ q) ∷ ‵ Enc ∷ ‵ Pre ∷ ‵ Plan ∷ []) ∵
       suffices ! _ (ends-at 𝓤 H A f.ended stayed (f.clauses 𝓤 H A mem′ run) W (((κ₀, (κ₁, (κ, tt))), (q₀, (q₁, (q, tt))), tt, a, at), tt) u r (tt, (tt, (tt, tt))) (tt, (tt, (tt, tt)))) $
-      suffices ! _ (assoc∗ 𝓤 (onExit 𝓤 H A f.ended stayed (κ₀, (κ₁, (κ, tt))) (q₀, (q₁, (q, tt))) at u r a (tt, (tt, (tt, tt)))) (fact 𝓤 (Right r)) (fact 𝓤 (Promised (x₀ .now) (x₁ .now)))) $ says ! promise $ says ! right $
+      suffices ! _ (assoc∗ 𝓤 (onExit 𝓤 H A f.ended stayed (κ₀, (κ₁, (κ, tt))) (q₀, (q₁, (q, tt))) at u r a (tt, (tt, (tt, tt)))) (fact 𝓤 (Right r)) (fact 𝓤 (Promised r))) $ says ! (check-promised (x₀ .now) (x₁ .now) es (checkReply r) right) $ says ! right $
       nothing ! $ move ! (4 ∷ 0 ∷ []) $ join ! $ move ! (3 ∷ 0 ∷ []) $ join ! $ move ! (2 ∷ 0 ∷ []) $ join ! $ frame ! $
-      -- [the answer; the encoding; the preorder; the plan]
+      -- [the answer; the encoding; the start; the plan]
       nothing ! $ move ! (4 ∷ 0 ∷ []) $ fjoin ! $ move ! (3 ∷ 0 ∷ []) $ fjoin ! $ move ! (2 ∷ 0 ∷ []) $ fjoin ! $ done !
 
   -- ---- the calls: what each callee's triple binds outside, and what it is handed
@@ -270,20 +272,20 @@ module _ {M : Type 1} (𝓤 : URA M) (H : Heap 𝓤) (A : Atoms 𝓤) (W : Given
         use2 W (raw (Ends 𝓤 H A mem′ run .pre (to-end l₄ ν δ (i .work)))) (goes-end l₄ ν δ (i .work) (i .long)) $
         calls-at ! (fmOf 𝓤 H (W .laws) 𝓣) (Ends 𝓤 H A mem′ run) known-end (to-end l₄ ν δ (i .work)) (and-then ! (load ! (from ! (stop !)) (look ! 33 refl)) (and-then ! (load ! (from ! (stop !)) (look ! 31 refl)) (and-then ! (load ! (from ! (stop !)) (look ! 6 refl)) (and-then ! (load ! (from ! (stop !)) (look ! 26 refl)) (no-more !))))) (λ u.
         use1 W (later (some (λ (r : Verdict). ((‵ (flft κ₀ q₀) ⊛ ‵ (flft κ₁ q₁) ⊛ ‵ (flft (ν ∷ []) fullShare) ⊛ ‵ ftrue) ⊛ ‵ (N.the-row .own r (u ∷ []))) ⊛ raw (ensured 𝓤 H A cn.ended (cn.clauses 𝓤 H A mem′ run) (κ₀, (κ₁, (ν ∷ [], tt))) (arg-end l₄ δ (i .work)) tt r)))) (id⊢ 𝓤 _) $ await ! tt $ pick ! (λ r.
-        split ! $ move ! (1 ∷ []) $ use1 W (some (λ (ws : Unit {0} × (Unit {0} × (List ℕ × (Unit {0} × Unit {0})))). ‵ (lasts cn.ended (κ₀, (κ₁, (ν ∷ [], tt))) (arg-end l₄ δ (i .work)) ws) ⊛ raw (fact 𝓤 (Concludes (x₀ .now) (x₁ .now) (i .work) n r)) ⊛ raw (fact 𝓤 (Promised (x₀ .now) (x₁ .now))))) (id⊢ 𝓤 _) $ pick ! (λ ws.
-        split ! $ move ! (1 ∷ []) $ split ! $ heard ! (Concludes (x₀ .now) (x₁ .now) (i .work) n r) (λ is. heard ! (Promised (x₀ .now) (x₁ .now)) (λ promise.
+        split ! $ move ! (1 ∷ []) $ use1 W (some (λ (ws : Unit {0} × (Unit {0} × (List ℕ × (Unit {0} × Unit {0})))). ‵ (lasts cn.ended (κ₀, (κ₁, (ν ∷ [], tt))) (arg-end l₄ δ (i .work)) ws) ⊛ raw (fact 𝓤 (Concludes (x₀ .now) (x₁ .now) (i .work) n r)))) (id⊢ 𝓤 _) $ pick ! (λ ws.
+        split ! $ move ! (1 ∷ []) $ heard ! (Concludes (x₀ .now) (x₁ .now) (i .work) n r) (λ is.
         fsplit ! $ drop ! $ fsplit ! $ drop ! $ fsplit ! $ fsplit ! $ move ! (1 ∷ []) $ feqL ! (λ same. move ! (2 ∷ []) $ split ! $ move ! (1 ∷ []) $
         peeks ! N.the-row (Is N.the-row) (shows 𝓤 H A N.the-row) r (u ∷ []) (λ has.
-        -- [the answer; the tokens; the last work; true; the preorder; the encoding; what is kept; the plan's token; the plan; _15; …]
+        -- [the answer; the tokens; the last work; true; the start; the encoding; what is kept; the plan's token; the plan; _15; …]
         land ! (from ! (stop !)) (init ! 38 refl (answer-typed 𝓤 H A W r u has)) $
         move ! (1 ∷ []) $ split ! $ move ! (1 ∷ []) $ split ! $ move ! (1 ∷ []) $ split ! $ lft-end ! tt $ move ! (0 ∷ 9 ∷ 5 ∷ []) $
         use3 W (later (‵ (Arr (mem u16) (length (i .work)) .lies (ws .1 .1 .0) l₄ 0))) (slice-back 𝓤 H A W u16 (ν ∷ []) δ (ws .1 .1 .0) (length (i .work)) l₄ 0) $ await ! tt $ fsplit ! $ drop ! $
         use1 W (‵ (row u16 fullShare (ws .1 .1 .0) l₄ 0)) (whole-out 𝓤 H A W u16 (ws .1 .1 .0) l₄ 0) $
         use1 W (‵ (froom arrTy l₄ 0)) (array-room 𝓤 H A W u16 (uint-makes 𝓤 H A W w16) (uint-vals w16) (uint-tells w16) tt 69636 l₄ (ws .1 .1 .0) (same ∙ i .long)) $
-        -- [room for _4; true; the tokens of the preorder and the encoding; the answer; true; the preorder; the encoding; the plan's token; the plan; _15; …]
+        -- [room for _4; true; the tokens of the start and the encoding; the answer; true; the start; the encoding; the plan's token; the plan; _15; …]
         returns ! (look ! 39 refl) $ forget ! 10 refl $ forget ! 12 refl $ forget ! 26 refl $ forget ! 28 refl $ forget ! 30 refl $ forget ! 33 refl $ forget ! 35 refl $ forget ! 37 refl $ forget ! 39 refl $
         move ! (39 ∷ 40 ∷ []) $ free1 ! $ move ! (37 ∷ 38 ∷ []) $ free1 ! $ move ! (35 ∷ 36 ∷ []) $ free1 ! $ move ! (33 ∷ 34 ∷ []) $ free1 ! $ move ! (0 ∷ 32 ∷ []) $ free1 ! $ move ! (29 ∷ 30 ∷ []) $ free1 ! $ move ! (27 ∷ 28 ∷ []) $ free1 ! $ move ! (25 ∷ 26 ∷ []) $ free1 ! $ move ! (23 ∷ 24 ∷ []) $ free1 ! $ move ! (21 ∷ 22 ∷ []) $ free1 ! $ move ! (19 ∷ 20 ∷ []) $ free1 ! $ move ! (17 ∷ 18 ∷ []) $ free1 ! $ move ! (15 ∷ 16 ∷ []) $ free1 ! $ move ! (13 ∷ 14 ∷ []) $ free1 ! $ move ! (11 ∷ 12 ∷ []) $ free1 ! $ move ! (9 ∷ 10 ∷ []) $ free1 ! $ free0 ! $
-        keep ! (3 ∷ 2 ∷ 1 ∷ 7 ∷ 6 ∷ 5 ∷ 8 ∷ []) $ by ! (exits r u (is es refl (last-turn (x₀ .now) (x₁ .now) es i all)) promise))))))))))
+        keep ! (3 ∷ 2 ∷ 1 ∷ 7 ∷ 6 ∷ 5 ∷ 8 ∷ []) $ by ! (exits r u (is es refl (last-turn (x₀ .now) (x₁ .now) es i all)))))))))))
 
     turns : (i : State) → Sq W (At i) (runs C Λ En mir′.turn-1 (anyQ (Turned i)))
     unfolding afterTurn
@@ -303,7 +305,7 @@ module _ {M : Type 1} (𝓤 : URA M) (H : Heap 𝓤) (A : Atoms 𝓤) (W : Given
         -- [plan[i]; what it owns; the others; what shuts; the copy; the plan; the array; its tokens; …; _15; …]
         assigns ! (of-opd ! (load ! (from ! (hop ! (look ! 17 refl) (stop !))) (look-raw ! 0 refl))) (from ! (stop !)) (init ! 15 refl (lawful 𝓤 H A W .typed (getD es (i .at) blank) _ is .0)) $
         elem-back ! R p es (i .at) blank (vals (getD es (i .at) blank)) b o (inside less) $ shuts-slice ! tt R p es b o $ move ! (1 ∷ []) $ drop ! $
-        -- [the plan's token; the plan; the array; the tokens of the encoding and the preorder; the encoding; the preorder; _15; …]: the array is lent for a lifetime ν of the call
+        -- [the plan's token; the plan; the array; the tokens of the encoding and the start; the encoding; the start; _15; …]: the array is lent for a lifetime ν of the call
         lft-new ! tt (λ ν. move ! (3 ∷ []) $
         use1 W (later (some (λ (δ : GName). ‵ (Work l₄ ν δ (i .work) (length (i .work))) ⊛ ‵ (flent (ν ∷ []) (Held u16 (length (i .work)) l₄ 0 δ))))) (lends-slice 𝓤 H A W u16 (named 2) (ν ∷ []) (i .work) l₄ 0 (subst (Room u16) (sym (i .long)) room₀)) $ await ! tt $ pick ! (λ δ. split ! $
         rewrite ! 0 (λ (k : ℕ). ‵ (Work l₄ ν δ (i .work) k)) (i .long) refl $
@@ -316,7 +318,7 @@ module _ {M : Type 1} (𝓤 : URA M) (H : Heap 𝓤) (A : Atoms 𝓤) (W : Given
         split ! $ move ! (1 ∷ []) $ heard ! (TakesEntry (x₀ .now) (x₁ .now) (i .work) (i .at) (getD es (i .at) blank) (ws .1 .1 .0)) (λ takes.
         fsplit ! $ drop ! $ fsplit ! $ drop ! $ fsplit ! $ fsplit ! $ move ! (1 ∷ []) $ feqL ! (λ same.
         move ! (2 ∷ []) $ split ! $ move ! (1 ∷ []) $ feqL ! (λ none.
-        -- [the tokens; the last work; true; the preorder; the encoding; what is kept; the plan's token; the plan; _15; …]
+        -- [the tokens; the last work; true; the start; the encoding; what is kept; the plan's token; the plan; _15; …]
         land ! (from ! (stop !)) (init ! 22 refl (unit-typed w none)) $
         -- the lifetime is ended, and the array is back
         split ! $ move ! (1 ∷ []) $ split ! $ move ! (1 ∷ []) $ split ! $ lft-end ! tt $ move ! (0 ∷ 8 ∷ 4 ∷ []) $
@@ -346,7 +348,7 @@ module _ {M : Type 1} (𝓤 : URA M) (H : Heap 𝓤) (A : Atoms 𝓤) (W : Given
     parts : Sq W Made (runs C Λ En mir′.t-4 (atRet En Post))
     parts =
         move ! (33 ∷ []) $ fsplit ! $ move ! (1 ∷ []) $ fsplit ! $ move ! (1 ∷ []) $ fsplit ! $ move ! (36 ∷ []) $ split ! $ move ! (1 ∷ []) $ split ! $ move ! (1 ∷ []) $ split ! $
-        -- [the plan's token; true; the preorder's; the encoding's; the plan; true; the preorder; the encoding; the array; _15; …]
+        -- [the plan's token; true; the start's; the encoding's; the plan; true; the start; the encoding; the array; _15; …]
         keep ! (8 ∷ 3 ∷ 2 ∷ 0 ∷ 7 ∷ 6 ∷ 4 ∷ 9 ∷ 10 ∷ 11 ∷ 12 ∷ 13 ∷ 14 ∷ 15 ∷ 16 ∷ 17 ∷ 18 ∷ 19 ∷ 20 ∷ 21 ∷ 22 ∷ 23 ∷ 24 ∷ 25 ∷ 26 ∷ 27 ∷ 28 ∷ 29 ∷ 30 ∷ 31 ∷ 32 ∷ 33 ∷ 34 ∷ 35 ∷ 36 ∷ 37 ∷ 38 ∷ 39 ∷ []) $ starts
 
     abbrev Passed : List (Item 𝓤)

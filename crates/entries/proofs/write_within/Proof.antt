@@ -30,9 +30,9 @@ returns : tie.Need-returns
 returns c =
     let s = c .before .before .before .before .before .before .before .before in
     let size = c .before .before .before .before .number-count .ensures in
-    let w = c .before .before .write-strategy .ensures in
+    let w = c .before .before .write-strategy .ensures .0 in
     let long = length-take-le (c .before .before .before .before .number-count .result) (s .args .numbers .now) (omega (arith, size, count-most (s .args .room), s .pre)) in
-    within (s .args .s .now) (s .args .preorder .now) (s .args .p) (s .args .q) (s .args .room) (w .1 .1) _ _ _ _ _ (long ∙ size) (w .0) (w .1 .0) refl
+    within (s .args .s .now) (s .args .start .now) (s .args .p) (s .args .q) (s .args .room) _ _ _ _ _ (long ∙ size) w refl
 
 pub write-within-spec : {M : Type 1} → statement M
 write-within-spec =

@@ -48,11 +48,11 @@ defender-below t =
     and 6 defender-kinds.ps (falls 6 defender-kinds.ps _<_ μ-defender t) defender.Pre
 
 abbrev challenger-Inv-loop : challenger-lts.InvT-loop
-challenger-Inv-loop n size sources actions targets offsets preorder memo₀ p q rounds w cell end i₀ memo i =
-    (getD offsets p 0 ≤ i) × (i ≤ end) × ((j : ℕ) → getD offsets p 0 ≤ j → j < i → defenderLoses (system n size sources actions targets) (wins n size sources actions targets preorder (rounds - 1)) q (getD actions j 0) (getD targets j 0) ≡ false) × Right (wins n size sources actions targets preorder) n memo
+challenger-Inv-loop n size sources actions targets offsets start memo₀ p q rounds w cell end i₀ memo i =
+    (getD offsets p 0 ≤ i) × (i ≤ end) × ((j : ℕ) → getD offsets p 0 ≤ j → j < i → defenderLoses (system n size sources actions targets) (wins n size sources actions targets start (rounds - 1)) q (getD actions j 0) (getD targets j 0) ≡ false) × Right (wins n size sources actions targets start) n memo
 
 abbrev challenger-μ-loop : challenger-lts.MeasureT-loop
-challenger-μ-loop n size sources actions targets offsets preorder memo₀ p q rounds w cell end i₀ memo i = end - i
+challenger-μ-loop n size sources actions targets offsets start memo₀ p q rounds w cell end i₀ memo i = end - i
 
 module _ (t : ℕ) where
   -- what each need of `challenger` is stated at
@@ -79,10 +79,10 @@ module _ (t : ℕ) where
       → cellOf (challenger-start e .args .n) (challenger-start e .args .rounds) (challenger-start e .args .p) (challenger-start e .args .q) < 6 * challenger-start e .args .n * challenger-start e .args .n
   challenger-cell e = let s = challenger-start e in cell-below (challenger-more e) (s .pre .1 .1 .1 .2) (s .pre .1 .1 .1 .0) (s .pre .1 .1 .1 .1)
 
-  -- inside the preorder, with rounds left, the transitions decide
+  -- inside the start, with rounds left, the transitions decide
   challenger-turn : (e : challenger-need challenger-lts.Else2) → let a = challenger-start e .args in
       let L = system (a .n) (a .size) (now (a .sources)) (now (a .actions)) (now (a .targets)) in
-      let won = wins (a .n) (a .size) (now (a .sources)) (now (a .actions)) (now (a .targets)) (now (a .preorder)) in
+      let won = wins (a .n) (a .size) (now (a .sources)) (now (a .actions)) (now (a .targets)) (now (a .start)) in
       won (a .rounds) (a .p) (a .q) ≡ beaten L (won (a .rounds - 1)) (a .p) (a .q)
   challenger-turn e = wins-more _ _ _ _ _ (sym (e .before .before .has .ensures) ∙ not-false _ (e .before .if1 .left)) (challenger-more e)
 
@@ -90,7 +90,7 @@ module _ (t : ℕ) where
   challenger-add-w c = omega (arith, c .before .before .pre .1 .0 .table .states)
 
   challenger-has-requires : challenger-need challenger-lts.Need-has-requires
-  challenger-has-requires c κs = let s = c .before .before in pair-word (s .args .n) (now (s .args .preorder)) (s .pre .1 .1 .1 .0) (s .pre .1 .1 .1 .1) (s .pre .1 .0 .matrix .long)
+  challenger-has-requires c κs = let s = c .before .before in pair-word (s .args .n) (now (s .args .start)) (s .pre .1 .1 .1 .0) (s .pre .1 .1 .1 .1) (s .pre .1 .0 .matrix .long)
 
   challenger-returns : challenger-need challenger-lts.Need-returns
   challenger-returns c = (sym (wins-outside _ _ _ _ _ (sym (c .before .has .ensures) ∙ not-true _ (c .if1 .taken))), c .before .before .before .before .pre .1 .1 .0)
@@ -207,11 +207,11 @@ module _ (t : ℕ) where
       (sym missed, right-missed _ _ _ (a .rounds) (a .p) (a .q) (l .loop .inv .3) (challenger-more e) (s .pre .1 .1 .1 .2) (s .pre .1 .1 .1 .0) (s .pre .1 .1 .1 .1) missed)
 
 abbrev defender-Inv-loop : defender-lts.InvT-loop
-defender-Inv-loop n size sources actions targets offsets preorder memo₀ a t q rounds end j₀ memo j =
-    (getD offsets q 0 ≤ j) × (j ≤ end) × ((i : ℕ) → getD offsets q 0 ≤ i → i < j → getD actions i 0 ≡ a → wins n size sources actions targets preorder (rounds - 1) t (getD targets i 0) ≡ true) × Right (wins n size sources actions targets preorder) n memo
+defender-Inv-loop n size sources actions targets offsets start memo₀ a t q rounds end j₀ memo j =
+    (getD offsets q 0 ≤ j) × (j ≤ end) × ((i : ℕ) → getD offsets q 0 ≤ i → i < j → getD actions i 0 ≡ a → wins n size sources actions targets start (rounds - 1) t (getD targets i 0) ≡ true) × Right (wins n size sources actions targets start) n memo
 
 abbrev defender-μ-loop : defender-lts.MeasureT-loop
-defender-μ-loop n size sources actions targets offsets preorder memo₀ a t q rounds end j₀ memo j = end - j
+defender-μ-loop n size sources actions targets offsets start memo₀ a t q rounds end j₀ memo j = end - j
 
 module _ (t : ℕ) where
   -- what each need of `defender` is stated at

@@ -27,7 +27,7 @@ challenger-requires c κs =
     let s = c .before .before in
     let a = s .args in (
       s .pre .0,
-      (right-blank (wins (a .n) (a .size) (now (a .sources)) (now (a .actions)) (now (a .targets)) (now (a .preorder))) (a .n) 393216 (size-small (s .pre .0 .table .states)), s .pre .1),
+      (right-blank (wins (a .n) (a .size) (now (a .sources)) (now (a .actions)) (now (a .targets)) (now (a .start))) (a .n) 393216 (size-small (s .pre .0 .table .states)), s .pre .1),
     )
 
 returns : tie.Need-returns

@@ -1,7 +1,10 @@
 -- `relation::check_preorder` meets its contract: by the answers of the three tests. Assumes nothing.
-use mathlib.Core.Path.{sym, _∙_}
-use borrow.Author.Tests.{not-true, not-false}
-use Rattle.relation.proofs.Checks.{matrix-test, check-grid, check-reflexive, check-transitive, check-passes}
+use mathlib.Core.Path.{refl, sym, _∙_}
+use denote.Ref.{now}
+use borrow.Author.Tests.{not-false}
+use Rattle.lts.proofs.Rule.{After, stop, pass, done, check-refused, check-passed}
+use Rattle.relation.specs.Check.{startRules}
+use Rattle.relation.proofs.Checks.{matrix-test}
 use borrow.Author.Needs.{needs}
 use Rattle.relation.proofs.check_preorder.Statement.{statement}
 use Rattle.relation.proofs.check_preorder.Tie as tie
@@ -10,26 +13,34 @@ is-matrix-requires : tie.Need-is-matrix-requires
 is-matrix-requires c κs = search needs
 
 returns : tie.Need-returns
-returns c = check-grid _ _ (sym (c .before .is-matrix .ensures) ∙ not-true _ (c .if1 .taken))
+unfolding startRules
+returns c = check-refused _ (stop _ _ _ refl (c .before .is-matrix .ensures) (c .if1 .taken))
+
+after-1 : (c : tie.Else1) → After 1 (startRules (c .before .before .before .args .n) (now (c .before .before .before .args .grid)))
+unfolding startRules
+after-1 c = pass _ _ _ refl (c .before .is-matrix .ensures) (c .if1 .left)
 
 is-reflexive-requires : tie.Need-is-reflexive-requires
 is-reflexive-requires c κs = (matrix-test _ _ (sym (c .before .is-matrix .ensures) ∙ not-false _ (c .if1 .left)), c .before .before .before .pre)
 
 returns-2 : tie.Need-returns-2
-returns-2 c = check-reflexive _ _ (sym (c .before .before .before .is-matrix .ensures) ∙ not-false _ (c .before .before .if1 .left)) (sym (c .before .is-reflexive .ensures) ∙ not-true _ (c .if2 .taken))
+unfolding startRules
+returns-2 c = check-refused _ (stop _ _ _ (after-1 (c .before .before)) (c .before .is-reflexive .ensures) (c .if2 .taken))
+
+after-2 : (c : tie.Else2) → After 2 (startRules (c .before .before .before .before .before .args .n) (now (c .before .before .before .before .before .args .grid)))
+unfolding startRules
+after-2 c = pass _ _ _ (after-1 (c .before .before)) (c .before .is-reflexive .ensures) (c .if2 .left)
 
 is-transitive-requires : tie.Need-is-transitive-requires
 is-transitive-requires c κs = (matrix-test _ _ (sym (c .before .before .before .is-matrix .ensures) ∙ not-false _ (c .before .before .if1 .left)), c .before .before .before .before .before .pre)
 
 returns-3 : tie.Need-returns-3
-returns-3 c =
-    check-transitive _ _ (sym (c .before .before .before .before .before .is-matrix .ensures) ∙ not-false _ (c .before .before .before .before .if1 .left)) (sym (c .before .before .before .is-reflexive .ensures) ∙ not-false _ (c .before .before .if2 .left))
-    (sym (c .before .is-transitive .ensures) ∙ not-true _ (c .if3 .taken))
+unfolding startRules
+returns-3 c = check-refused _ (stop _ _ _ (after-2 (c .before .before)) (c .before .is-transitive .ensures) (c .if3 .taken))
 
 returns-4 : tie.Need-returns-4
-returns-4 c =
-    check-passes _ _ (sym (c .before .before .before .before .before .is-matrix .ensures) ∙ not-false _ (c .before .before .before .before .if1 .left)) (sym (c .before .before .before .is-reflexive .ensures) ∙ not-false _ (c .before .before .if2 .left))
-    (sym (c .before .is-transitive .ensures) ∙ not-false _ (c .if3 .left))
+unfolding startRules
+returns-4 c = check-passed _ (done (pass _ _ _ (after-2 (c .before .before)) (c .before .is-transitive .ensures) (c .if3 .left)))
 
 pub check-preorder-spec : {M : Type 1} → statement M
 check-preorder-spec =

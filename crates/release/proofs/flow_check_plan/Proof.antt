@@ -1,9 +1,14 @@
--- `release::flow_check_plan` meets its contract, by the cases of the verdict.
-use mathlib.Core.Path.{sym, _∙_}
+-- `release::flow_check_plan` meets its contract.
 use native.Mathlib.Omega.{arith}
+use mathlib.Core.Path.{sym, ap, _∙_}
 use lib.Seq.{length-take-le}
+use Rattle.strategy.specs.Check.{checkReply}
+use Rattle.release.specs.Packed.{pairPlaces}
+use Rattle.release.proofs.Packing.{unpack-refused}
+use Rattle.release.proofs.Replies.{packs-same, kept-same, refused-packed, pair-packed, pair-kept}
+use Rattle.release.proofs.Plans.{pair-few}
+use Rattle.release.proofs.Exports.{check-exported}
 use borrow.Author.Needs.{needs}
-use Rattle.release.proofs.Strategies.{last-few}
 use Rattle.release.proofs.flow_check_plan.Statement.{statement}
 use Rattle.release.proofs.flow_check_plan.Tie as tie
 
@@ -11,7 +16,7 @@ load-grid-requires : tie.Need-load-grid-requires
 load-grid-requires c κs = search needs
 
 array-share-prefix-words : tie.Need-array-share-prefix-words
-array-share-prefix-words c = search needs
+array-share-prefix-words c = omega (arith, c .load-grid .ensures .few)
 
 slice-aggregate-check-bytes : tie.Need-slice-aggregate-check-bytes
 slice-aggregate-check-bytes c = sym (length-take-le _ _ (omega (arith, c .before .load-grid .ensures .few, c .before .load-grid .ensures .long)))
@@ -29,25 +34,35 @@ enum-known-answer-2 : tie.Need-enum-known-answer-2
 enum-known-answer-2 c = search needs
 
 mul-result : tie.Need-mul-result
-mul-result c =
-    let b = last-few _ _ _ _ _ (sym (c .before .before .before .check-bytes .ensures .0) ∙ c .before .answer2 .given .1) in
-    omega (arith, b .0, b .1)
+unfolding checkReply
+mul-result c = omega (arith, pair-few (c .before .before .before .check-bytes .ensures .1) (ap checkReply (c .before .answer2 .given .1)))
 
 mul-result-2 : tie.Need-mul-result-2
-mul-result-2 c =
-    let b = last-few _ _ _ _ _ (sym (c .before .before .before .check-bytes .ensures .0) ∙ c .before .answer2 .given .1) in
-    omega (arith, b .0, b .1)
+unfolding checkReply
+mul-result-2 c = omega (arith, pair-few (c .before .before .before .check-bytes .ensures .1) (ap checkReply (c .before .answer2 .given .1)))
 
 add-result : tie.Need-add-result
-add-result c =
-    let b = last-few _ _ _ _ _ (sym (c .before .before .before .check-bytes .ensures .0) ∙ c .before .answer2 .given .1) in
-    omega (arith, b .0, b .1)
+unfolding checkReply
+add-result c = omega (arith, pair-few (c .before .before .before .check-bytes .ensures .1) (ap checkReply (c .before .answer2 .given .1)))
 
 returns : tie.Need-returns
-returns c = rw (← c .before .before .before .before .before .before .load-grid .ensures .loaded, ← c .before .before .before .before .check-bytes .ensures .0, c .before .before .answer .given .1) (c .refusal-number .ensures)
+unfolding checkReply
+returns c =
+    let m = c .before .before .before .before .check-bytes in
+    let a = c .before .before .answer .given in
+    check-exported (c .before .before .before .before .before .before .load-grid .ensures .loaded) (m .ensures .0) (m .ensures .1)
+    (packs-same pairPlaces checkReply (a .1) (c .refusal-number .ensures ∙ refused-packed pairPlaces (a .0 .0)))
+    (kept-same pairPlaces checkReply (a .1) (unpack-refused pairPlaces (a .0 .0)))
 
 returns-2 : tie.Need-returns-2
-returns-2 c = rw (← c .before .before .before .before .before .load-grid .ensures .loaded, ← c .before .before .before .check-bytes .ensures .0, c .before .answer2 .given .1)
+unfolding checkReply
+returns-2 c =
+    let m = c .before .before .before .check-bytes in
+    let a = c .before .answer2 .given in
+    let f = pair-few (m .ensures .1) (ap checkReply (a .1)) in
+    check-exported (c .before .before .before .before .before .load-grid .ensures .loaded) (m .ensures .0) (m .ensures .1)
+    (packs-same pairPlaces checkReply (a .1) (pair-packed (a .0 .0) (a .0 .1 .0)))
+    (kept-same pairPlaces checkReply (a .1) (pair-kept (a .0 .0) (a .0 .1 .0) (omega (arith, f))))
 
 pub flow-check-plan-spec : {M : Type 1} → statement M
 flow-check-plan-spec =

@@ -1,25 +1,29 @@
--- `release::flow_coarsest` meets its contract, whatever the schedule's length.
-use mathlib.Core.Path.{sym, _∙_}
-use native.Mathlib.Omega.{arith}
-use lib.Seq.{length-take-le}
+-- `release::flow_coarsest` meets its contract.
+use mathlib.Core.Path.{_∙_}
+use Rattle.coarsest.specs.Call.{coarsestReply}
+use Rattle.coarsest_bytes.proofs.Laws.{small}
+use Rattle.release.specs.Packed.{coarsestPlaces}
+use Rattle.release.proofs.Packing.{unpack-refused}
+use Rattle.release.proofs.Replies.{packs-same, kept-same, refused-packed, counts-kept}
+use Rattle.release.proofs.Exports.{coarsest-exported}
 use borrow.Author.Needs.{needs}
-use Rattle.coarsest.proofs.Laws.{promised}
-use Rattle.release.proofs.Calls.{left-same, flow-is}
 use Rattle.release.proofs.flow_coarsest.Statement.{statement}
 use Rattle.release.proofs.flow_coarsest.Tie as tie
 
-load-grid-requires : tie.Need-load-grid-requires
-load-grid-requires c κs = search needs
+coarsest-on-bytes-requires : tie.Need-coarsest-on-bytes-requires
+coarsest-on-bytes-requires c κs = search needs
 
-array-share-prefix-words : tie.Need-array-share-prefix-words
-array-share-prefix-words c = omega (arith, c .load-grid .ensures .few)
+enum-known-answer : tie.Need-enum-known-answer
+enum-known-answer c = search needs
 
-slice-aggregate-start : tie.Need-slice-aggregate-start
-slice-aggregate-start c =
-    sym (length-take-le _ _ (omega (arith, c .before .load-grid .ensures .few, c .before .load-grid .ensures .long)))
+refusal-number-requires : tie.Need-refusal-number-requires
+refusal-number-requires c κs = search needs
 
-coarsest-short-requires : tie.Need-coarsest-short-requires
-coarsest-short-requires c κs = c .before .before .if1 .taken
+enum-known-answer-2 : tie.Need-enum-known-answer-2
+enum-known-answer-2 c = search needs
+
+pack-counts-requires : tie.Need-pack-counts-requires
+pack-counts-requires c κs = small (c .before .before .before .before .before .before .before .coarsest-on-bytes .ensures .1 .carried) (c .before .answer2 .given .1)
 
 same-length : tie.Need-same-length
 same-length c = search needs
@@ -28,13 +32,13 @@ same-length-2 : tie.Need-same-length-2
 same-length-2 c = search needs
 
 returns : tie.Need-returns
+unfolding coarsestReply
 returns c =
-    let k = c .before .before .before .before .coarsest-short .ensures in
-    let q = left-same _ _ (flow-is _ _ _ _ _ _ (c .before .before .before .before .before .before .before .before .before .load-grid .ensures .loaded)) in
-    (k .0 ∙ q .0, (k .1 .0 ∙ q .1, (k .1 .1 ∙ q .2, promised _ _ _)))
-
-coarsest-long-requires : tie.Need-coarsest-long-requires
-coarsest-long-requires c κs = search needs
+    let m = c .before .before .before .before .before .before .before .before .coarsest-on-bytes in
+    let a = c .before .before .answer .given in
+    coarsest-exported (m .ensures .0) (m .ensures .1)
+    (packs-same coarsestPlaces coarsestReply (a .1) (c .refusal-number .ensures ∙ refused-packed coarsestPlaces (a .0 .0)))
+    (kept-same coarsestPlaces coarsestReply (a .1) (unpack-refused coarsestPlaces (a .0 .0)))
 
 same-length-3 : tie.Need-same-length-3
 same-length-3 c = search needs
@@ -44,22 +48,23 @@ same-length-4 c = search needs
 
 returns-2 : tie.Need-returns-2
 returns-2 c =
-    let k = c .before .before .before .before .coarsest-long .ensures in
-    let q = left-same _ _ (flow-is _ _ _ _ _ _ (c .before .before .before .before .before .before .before .before .before .load-grid .ensures .loaded)) in
-    (k .0 ∙ q .0, (k .1 .0 ∙ q .1, (k .1 .1 ∙ q .2, promised _ _ _)))
+    let m = c .before .before .before .before .before .before .before .before .coarsest-on-bytes in
+    let a = c .before .before .answer2 .given in
+    coarsest-exported (m .ensures .0) (m .ensures .1) (packs-same coarsestPlaces coarsestReply (a .1) (c .pack-counts .ensures))
+    (kept-same coarsestPlaces coarsestReply (a .1) (counts-kept (a .0 .0) (small (m .ensures .1 .carried) (a .1))))
 
 pub flow-coarsest-spec : {M : Type 1} → statement M
 flow-coarsest-spec =
     tie.close
     (tie.spec
-    load-grid-requires
-    array-share-prefix-words
-    slice-aggregate-start
-    coarsest-short-requires
+    coarsest-on-bytes-requires
+    enum-known-answer
+    refusal-number-requires
+    enum-known-answer-2
+    pack-counts-requires
     same-length
     same-length-2
     returns
-    coarsest-long-requires
     same-length-3
     same-length-4
     returns-2)

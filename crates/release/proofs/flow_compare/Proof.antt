@@ -1,9 +1,13 @@
--- `release::flow_compare` meets its contract, by the cases of the answer.
-use mathlib.Core.Path.{refl}
+-- `release::flow_compare` meets its contract.
 use native.Mathlib.Omega.{arith}
+use mathlib.Core.Path.{ap, _∙_}
+use Rattle.comparison.specs.Call.{compareReply}
+use Rattle.release.specs.Packed.{comparePlaces}
+use Rattle.release.proofs.Packing.{unpack-refused}
+use Rattle.release.proofs.Replies.{packs-same, kept-same, refused-packed, compared-kept, compared-packed, no-packed}
+use Rattle.release.proofs.Exports.{compare-exported}
+use Rattle.release.proofs.Compared.{turns-few}
 use borrow.Author.Needs.{needs}
-use Rattle.comparison.proofs.Answers.{promised}
-use Rattle.release.proofs.Compared.{yes-few, no-few}
 use Rattle.release.proofs.flow_compare.Statement.{statement}
 use Rattle.release.proofs.flow_compare.Tie as tie
 
@@ -20,25 +24,52 @@ enum-known-answer-2 : tie.Need-enum-known-answer-2
 enum-known-answer-2 c = search needs
 
 mul-result : tie.Need-mul-result
-mul-result c = omega (arith, yes-few _ _ _ (c .before .before .before .compare .ensures .1) _ (c .before .answer2 .given .1))
+unfolding compareReply
+mul-result c =
+    let m = c .before .before .before .compare in
+    omega (arith, turns-few (m .ensures .1) (ap compareReply (c .before .answer2 .given .1)))
 
 add-result : tie.Need-add-result
-add-result c = omega (arith, yes-few _ _ _ (c .before .before .before .compare .ensures .1) _ (c .before .answer2 .given .1))
+unfolding compareReply
+add-result c =
+    let m = c .before .before .before .compare in
+    omega (arith, turns-few (m .ensures .1) (ap compareReply (c .before .answer2 .given .1)))
 
 enum-known-answer-3 : tie.Need-enum-known-answer-3
 enum-known-answer-3 c = search needs
 
 mul-result-2 : tie.Need-mul-result-2
-mul-result-2 c = omega (arith, no-few _ _ _ (c .before .before .before .compare .ensures .1) _ (c .before .answer3 .given .1))
+unfolding compareReply
+mul-result-2 c =
+    let m = c .before .before .before .compare in
+    omega (arith, turns-few (m .ensures .1) (ap compareReply (c .before .answer3 .given .1)))
 
 returns : tie.Need-returns
-returns c = (rw (← c .before .before .before .before .compare .ensures .0, c .before .before .answer .given .1) (c .refusal-number .ensures), promised _ _ _ refl)
+unfolding compareReply
+returns c =
+    let m = c .before .before .before .before .compare in
+    let a = c .before .before .answer .given in
+    compare-exported (m .ensures .0) (m .ensures .1)
+    (packs-same comparePlaces compareReply (a .1) (c .refusal-number .ensures ∙ refused-packed comparePlaces (a .0 .0)))
+    (kept-same comparePlaces compareReply (a .1) (unpack-refused comparePlaces (a .0 .0)))
 
 returns-2 : tie.Need-returns-2
-returns-2 c = (rw (← c .before .before .before .compare .ensures .0, c .before .answer2 .given .1), promised _ _ _ refl)
+unfolding compareReply
+returns-2 c =
+    let m = c .before .before .before .compare in
+    let a = c .before .answer2 .given in
+    compare-exported (m .ensures .0) (m .ensures .1)
+    (packs-same comparePlaces compareReply (a .1) (compared-packed 1 (a .0 .0)))
+    (kept-same comparePlaces compareReply (a .1) (compared-kept 1 (a .0 .0) (omega arith)))
 
 returns-3 : tie.Need-returns-3
-returns-3 c = (rw (← c .before .before .before .compare .ensures .0, c .before .answer3 .given .1), promised _ _ _ refl)
+unfolding compareReply
+returns-3 c =
+    let m = c .before .before .before .compare in
+    let a = c .before .answer3 .given in
+    compare-exported (m .ensures .0) (m .ensures .1)
+    (packs-same comparePlaces compareReply (a .1) (no-packed (a .0 .0)))
+    (kept-same comparePlaces compareReply (a .1) (compared-kept 0 (a .0 .0) (omega arith)))
 
 pub flow-compare-spec : {M : Type 1} → statement M
 flow-compare-spec =

@@ -1,7 +1,9 @@
--- `release::flow_hand_play` meets its contract, by the cases of the answer on the words that the bytes carry.
-use mathlib.Core.Path.{sym}
+-- `release::flow_hand_play` meets its contract.
 use native.Mathlib.Omega.{arith}
+use mathlib.Core.Path.{sym}
 use lib.Seq.{length-take-le}
+use Rattle.release.proofs.Replies.{played-kept}
+use Rattle.release.proofs.Exports.{play-exported}
 use borrow.Author.Needs.{needs}
 use Rattle.release.proofs.flow_hand_play.Statement.{statement}
 use Rattle.release.proofs.flow_hand_play.Tie as tie
@@ -18,26 +20,13 @@ slice-aggregate-hand-play c = sym (length-take-le _ _ (omega (arith, c .before .
 hand-play-requires : tie.Need-hand-play-requires
 hand-play-requires c κs = search needs
 
-enum-known-answer : tie.Need-enum-known-answer
-enum-known-answer c = search needs
-
-refusal-number-requires : tie.Need-refusal-number-requires
-refusal-number-requires c κs = search needs
-
-enum-told : tie.Need-enum-told
-enum-told c = search needs
-
-enum-told-2 : tie.Need-enum-told-2
-enum-told-2 c = search needs
+pack-played-requires : tie.Need-pack-played-requires
+pack-played-requires c κs = search needs
 
 returns : tie.Need-returns
-returns c = rw (← c .before .before .before .before .before .before .load-grid .ensures .loaded, ← c .before .before .before .before .hand-play .ensures, c .before .before .answer .given .1) (c .refusal-number .ensures)
-
-returns-2 : tie.Need-returns-2
-returns-2 c = rw (← c .before .before .before .before .load-grid .ensures .loaded, ← c .before .before .hand-play .ensures, c .enum-told .given .1)
-
-returns-3 : tie.Need-returns-3
-returns-3 c = rw (← c .before .before .before .before .load-grid .ensures .loaded, ← c .before .before .hand-play .ensures, c .enum-told2 .given .1)
+returns c =
+    let h = c .before .hand-play in
+    play-exported (c .before .before .before .load-grid .ensures .loaded) (h .ensures .0) (h .ensures .1) (c .pack-played .ensures) (played-kept _)
 
 pub flow-hand-play-spec : {M : Type 1} → statement M
 flow-hand-play-spec =
@@ -47,10 +36,5 @@ flow-hand-play-spec =
     array-share-prefix-words
     slice-aggregate-hand-play
     hand-play-requires
-    enum-known-answer
-    refusal-number-requires
-    enum-told
-    enum-told-2
-    returns
-    returns-2
-    returns-3)
+    pack-played-requires
+    returns)

@@ -1,7 +1,9 @@
--- `release::flow_test_simulation` meets its contract, by the cases of the answer on the words that the bytes carry.
-use mathlib.Core.Path.{sym}
+-- `release::flow_test_simulation` meets its contract.
 use native.Mathlib.Omega.{arith}
+use mathlib.Core.Path.{sym}
 use lib.Seq.{length-take-le}
+use Rattle.release.proofs.Replies.{tested-kept}
+use Rattle.release.proofs.Exports.{simulation-exported}
 use borrow.Author.Needs.{needs}
 use Rattle.release.proofs.flow_test_simulation.Statement.{statement}
 use Rattle.release.proofs.flow_test_simulation.Tie as tie
@@ -12,8 +14,8 @@ load-grid-requires c κs = search needs
 load-grid-requires-2 : tie.Need-load-grid-requires-2
 load-grid-requires-2 c κs = search needs
 
-array-share-prefix-preorder-words : tie.Need-array-share-prefix-preorder-words
-array-share-prefix-preorder-words c = omega (arith, c .before .before .load-grid .ensures .few)
+array-share-prefix-start-words : tie.Need-array-share-prefix-start-words
+array-share-prefix-start-words c = omega (arith, c .before .before .load-grid .ensures .few)
 
 slice-aggregate-is-simulation : tie.Need-slice-aggregate-is-simulation
 slice-aggregate-is-simulation c = sym (length-take-le _ _ (omega (arith, c .before .before .before .load-grid .ensures .few, c .before .before .before .load-grid .ensures .long)))
@@ -27,26 +29,15 @@ slice-aggregate-is-simulation-2 c = sym (length-take-le _ _ (omega (arith, c .be
 is-simulation-requires : tie.Need-is-simulation-requires
 is-simulation-requires c κs = search needs
 
-enum-known-answer : tie.Need-enum-known-answer
-enum-known-answer c = search needs
-
-refusal-number-requires : tie.Need-refusal-number-requires
-refusal-number-requires c κs = search needs
-
-enum-told : tie.Need-enum-told
-enum-told c = search needs
-
-enum-told-2 : tie.Need-enum-told-2
-enum-told-2 c = search needs
+pack-tested-requires : tie.Need-pack-tested-requires
+pack-tested-requires c κs = search needs
 
 returns : tie.Need-returns
-returns c = rw (← c .before .before .before .before .before .before .before .before .before .load-grid .ensures .loaded, ← c .before .before .before .before .before .before .before .load-grid2 .ensures .loaded, ← c .before .before .before .before .is-simulation .ensures, c .before .before .answer .given .1) (c .refusal-number .ensures)
-
-returns-2 : tie.Need-returns-2
-returns-2 c = rw (← c .before .before .before .before .before .before .before .load-grid .ensures .loaded, ← c .before .before .before .before .before .load-grid2 .ensures .loaded, ← c .before .before .is-simulation .ensures, c .enum-told .given .1)
-
-returns-3 : tie.Need-returns-3
-returns-3 c = rw (← c .before .before .before .before .before .before .before .load-grid .ensures .loaded, ← c .before .before .before .before .before .load-grid2 .ensures .loaded, ← c .before .before .is-simulation .ensures, c .enum-told2 .given .1)
+returns c =
+    let h = c .before .is-simulation in
+    let w = c .before .before .before .before .before .before .load-grid .ensures .loaded in
+    let v = c .before .before .before .before .load-grid2 .ensures .loaded in
+    simulation-exported w v (h .ensures .0) (h .ensures .1) (c .pack-tested .ensures) (tested-kept _)
 
 pub flow-test-simulation-spec : {M : Type 1} → statement M
 flow-test-simulation-spec =
@@ -54,15 +45,10 @@ flow-test-simulation-spec =
     (tie.spec
     load-grid-requires
     load-grid-requires-2
-    array-share-prefix-preorder-words
+    array-share-prefix-start-words
     slice-aggregate-is-simulation
     array-share-prefix-claim-words
     slice-aggregate-is-simulation-2
     is-simulation-requires
-    enum-known-answer
-    refusal-number-requires
-    enum-told
-    enum-told-2
-    returns
-    returns-2
-    returns-3)
+    pack-tested-requires
+    returns)

@@ -1,4 +1,3 @@
-use native.Mathlib.Omega.{arith}
 use Rattle.strategy.proofs.Checks.{last-first, last-second}
 use borrow.Author.Needs.{needs}
 use Rattle.strategy.proofs.last_pair.Statement.{statement}

@@ -7,20 +7,20 @@ use native.Mathlib.Omega.{arith}
 use denote.Ref.{now}
 use lib.ListN.{length, take, length-replicate}
 use Rattle.lts.specs.declared.Entry.{Entry}
-use Rattle.lts.specs.Strategy.{entriesOf}
-use Rattle.carry.specs.Carried.{listOf}
+use Rattle.strategy.proofs.Promise.{check-meets}
 use Rattle.strategy_parts.specs.Parts.{Taken, TakesEntry}
 use Rattle.strategy_parts.proofs.Answers.{taken-none}
 use Rattle.entries.proofs.Turns.{taken-next, taken-all}
-use Rattle.strategy_bytes.proofs.Laws.{length-carried, check-entries}
+use Rattle.strategy_bytes.specs.Bytes.{entriesOfBytes}
+use Rattle.strategy_bytes.proofs.Laws.{length-carried}
 use Rattle.strategy_bytes.proofs.check_bytes.Statement.{statement}
 use Rattle.strategy_bytes.proofs.check_bytes.Tie as tie
 
 abbrev Inv-loop : tie.InvT-loop
-Inv-loop s preorder plan work₀ n at₀ work at = (length work ≡ 69636) × (at ≤ length plan / 8) × Taken s preorder (take at (entriesOf (listOf plan))) work
+Inv-loop s start plan work₀ n at₀ work at = (length work ≡ 69636) × (at ≤ length plan / 8) × Taken s start (take at (entriesOfBytes plan)) work
 
 abbrev μ-loop : tie.MeasureT-loop
-μ-loop s preorder plan work₀ n at₀ work at = length plan / 8 - at
+μ-loop s start plan work₀ n at₀ work at = length plan / 8 - at
 
 loop-holds : tie.Need-loop-holds Inv-loop μ-loop
 loop-holds c = (length-replicate {A = ℕ} 69636 0, zero-le, taken-none _ _ 69636)
@@ -44,13 +44,13 @@ loop-less c =
 loop-again : tie.Need-loop-again Inv-loop μ-loop
 loop-again c =
     let a = c .before .before .before .before .before .before .before .before .before .args in
-    let es = entriesOf (listOf (now (a .plan))) in
+    let es = entriesOfBytes (now (a .plan)) in
     let t = c .before .before .before .before .before .loop in
     let less = c .before .before .before .before .loop-test .taken in
     let more = c .before .take-entry in
     let inside : t .at < length es = omega (arith, less, length-carried (now (a .plan))) in
-    let takes = subst (λ (x : Entry). TakesEntry (now (a .s)) (now (a .preorder)) (t .work) (t .at) x (more .last .1 .1 .0)) (c .before .before .entry-at .ensures) (more .ensures) in
-    (more .kept .1 .1 .0 ∙ t .inv .0, add-one-le less, taken-next (now (a .s)) (now (a .preorder)) es (t .at) (t .work) (t .inv .2) inside (more .last .1 .1 .0) takes)
+    let takes = subst (λ (x : Entry). TakesEntry (now (a .s)) (now (a .start)) (t .work) (t .at) x (more .last .1 .1 .0)) (c .before .before .entry-at .ensures) (more .ensures) in
+    (more .kept .1 .1 .0 ∙ t .inv .0, add-one-le less, taken-next (now (a .s)) (now (a .start)) es (t .at) (t .work) (t .inv .2) inside (more .last .1 .1 .0) takes)
 
 slice-aggregate-conclude : tie.Need-slice-aggregate-conclude Inv-loop μ-loop
 slice-aggregate-conclude c = sym (c .before .before .loop .inv .0)
@@ -62,12 +62,12 @@ returns : tie.Need-returns Inv-loop μ-loop
 returns c =
     let a = c .before .before .before .before .before .before .before .before .args in
     let plan = now (a .plan) in
-    let es = entriesOf (listOf plan) in
+    let es = entriesOfBytes plan in
     let t = c .before .before .before .before .loop in
     let n = length-carried plan in
     let last = le-antisymm (t .inv .1) (c .before .before .before .loop-test .left) ∙ sym n in
-    let r = c .before .conclude .ensures in
-    (r .0 es n (taken-all (now (a .s)) (now (a .preorder)) es (t .at) (t .work) (t .inv .2) last) ∙ check-entries (now (a .s)) (now (a .preorder)) (listOf plan), r .1)
+    check-meets (now (a .s)) (now (a .start)) es
+    (c .before .conclude .ensures es n (taken-all (now (a .s)) (now (a .start)) es (t .at) (t .work) (t .inv .2) last))
 
 pub check-bytes-spec : {M : Type 1} → statement M
 check-bytes-spec =

@@ -1,13 +1,17 @@
 -- `strategy_bytes::write_bytes` meets its contract: the strategy is written into numbers, and those of its entries are stored.
 -- The array's length is shown by a law: it is too long to compute.
 use Prim.Native.Nat.{ℕ, _*_}
-use mathlib.Core.Path.{sym, _∙_}
+use mathlib.Core.Path.{sym, ap, _∙_}
+use mathlib.Core.List.{List}
 use native.Mathlib.Nat.{le-of-eq}
 use native.Mathlib.Omega.{arith}
 use denote.Ref.{now}
 use lib.ListN.{length-replicate, length-take}
 use lib.Seq.{length-take-le}
-use Rattle.strategy_bytes.proofs.Laws.{answer-is, stored-is}
+use Rattle.strategy.specs.Write.{writeReply}
+use Rattle.strategy.proofs.Promise.{write-promised}
+use Rattle.strategy_bytes.specs.Bytes.{entryBytes, entriesOfBytes}
+use Rattle.strategy_bytes.proofs.Laws.{stored-within, bytes-carry}
 use Rattle.strategy_bytes.proofs.write_bytes.Statement.{statement}
 use Rattle.strategy_bytes.proofs.write_bytes.Tie as tie
 
@@ -42,10 +46,12 @@ same-length c = c .before .before .store-numbers .kept .1 .0
 
 returns : tie.Need-returns
 returns c =
-    let plan = now (c .before .before .before .before .before .before .before .before .before .before .before .before .args .plan) in
+    let a = c .before .before .before .before .before .before .before .before .before .before .before .before .args in
     let w = c .before .before .before .before .before .before .before .write-within .ensures in
     let size = 4 * c .before .before .before .before .before .entry-count .result in
-    (answer-is plan w, (c .before .before .store-numbers .ensures ∙ stored-is plan w (λ i _. c .before .before .before .before .before .before .before .before .before .slice-known .given i .fits) size (omega (arith, c .before .before .before .before .before .entry-count .ensures)), w .promised))
+    let is = stored-within (now (a .s)) (now (a .start)) (a .p) (a .q) (now (a .plan)) w size (omega (arith, c .before .before .before .before .before .entry-count .ensures))
+    ∙ sym (ap (λ (l : List ℕ). record { reply = writeReply (c .before .before .before .before .before .before .before .write-within .result); plan = l }) (c .before .before .store-numbers .ensures)) in
+    (is, write-promised entriesOfBytes entryBytes 8 bytes-carry (now (a .s)) (now (a .start)) (a .p) (a .q) (now (a .plan)) _ _ is)
 
 pub write-bytes-spec : {M : Type 1} → statement M
 write-bytes-spec =

@@ -1,26 +1,13 @@
-use mathlib.Core.Path.{sym, _∙_}
-use Rattle.strategy_parts.proofs.Answers.{answer-no-preorder, answer-unsound, answer-last, count-some}
+use Rattle.strategy_parts.proofs.Answers.{answer-unsound, answer-last, count-some}
 use borrow.Author.Needs.{needs}
 use Rattle.strategy_parts.proofs.answer.Statement.{statement}
 use Rattle.strategy_parts.proofs.answer.Tie as tie
 
-check-preorder-requires : tie.Need-check-preorder-requires
-check-preorder-requires c κs = search needs
-
-enum-known-checked : tie.Need-enum-known-checked
-enum-known-checked c = search needs
-
-returns : tie.Need-returns
-returns c = answer-no-preorder _ _ _ (sym (c .before .before .before .check-preorder .ensures) ∙ c .before .checked .given .1)
-
-enum-told : tie.Need-enum-told
-enum-told c = search needs
-
 shared-slice-read-if1 : tie.Need-shared-slice-read-if1
 shared-slice-read-if1 c = search needs
 
-returns-2 : tie.Need-returns-2
-returns-2 c = answer-unsound _ _ _ (sym (c .before .before .before .before .check-preorder .ensures) ∙ c .before .before .enum-told .given .1) (c .if1 .taken)
+returns : tie.Need-returns
+returns c = answer-unsound _ _ (c .if1 .taken)
 
 sub-at : tie.Need-sub-at
 sub-at c = count-some _ _ (c .if1 .left)
@@ -52,19 +39,15 @@ shared-slice-read-wide-2 c = search needs
 wide-requires-2 : tie.Need-wide-requires-2
 wide-requires-2 c κs = search needs
 
-returns-3 : tie.Need-returns-3
-returns-3 c = answer-last _ _ _ (sym (c .before .before .before .before .before .before .before .before .check-preorder .ensures) ∙ c .before .before .before .before .before .before .enum-told .given .1) (c .before .before .before .before .if1 .left) (c .before .before .wide .ensures) (c .wide2 .ensures)
+returns-2 : tie.Need-returns-2
+returns-2 c = answer-last _ _ (c .before .before .before .before .if1 .left) (c .before .before .wide .ensures) (c .wide2 .ensures)
 
 pub answer-spec : {M : Type 1} → statement M
 answer-spec =
     tie.close
     (tie.spec
-    check-preorder-requires
-    enum-known-checked
-    returns
-    enum-told
     shared-slice-read-if1
-    returns-2
+    returns
     sub-at
     mul-at
     add-at
@@ -75,4 +58,4 @@ answer-spec =
     mul-wide-2
     shared-slice-read-wide-2
     wide-requires-2
-    returns-3)
+    returns-2)

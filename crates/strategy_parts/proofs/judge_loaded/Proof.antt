@@ -1,4 +1,5 @@
 use mathlib.Core.Path.{_∙_}
+use Rattle.relation.proofs.Checks.{checked-matrix}
 use Rattle.strategy_parts.proofs.Steps.{waiting-loaded}
 use borrow.Author.Needs.{needs}
 use Rattle.strategy_parts.proofs.judge_loaded.Statement.{statement}
@@ -10,7 +11,7 @@ load-requires c κs = search needs
 judge-table-requires : tie.Need-judge-table-requires
 judge-table-requires c κs = let s = c .before .before .before .before .before .before .before .before .before .before .before .before .before .before in
     let l = c .before .before .before .before .before .load .ensures in
-    (l .table, l .rows, s .pre .1, s .pre .2, s .pre .3)
+    (l .table, l .rows, checked-matrix _ _ (s .pre .0 .checked), s .pre .1, s .pre .2)
 
 same-length : tie.Need-same-length
 same-length c = search needs

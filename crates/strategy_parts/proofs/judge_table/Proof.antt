@@ -11,10 +11,10 @@ use Rattle.strategy_parts.proofs.judge_table.Statement.{statement}
 use Rattle.strategy_parts.proofs.judge_table.Tie as tie
 
 abbrev Inv-loop : tie.InvT-loop
-Inv-loop n m k sources actions targets offsets preorder work₀ c j₀ work j = (work ≡ judgeWaiting (tableLts n m k sources actions targets) (relationOf n preorder) work₀ j) × (length work ≡ 69636) × (j ≤ c)
+Inv-loop n m k sources actions targets offsets start work₀ c j₀ work j = (work ≡ judgeWaiting (tableLts n m k sources actions targets) (relationOf n start) work₀ j) × (length work ≡ 69636) × (j ≤ c)
 
 abbrev μ-loop : tie.MeasureT-loop
-μ-loop n m k sources actions targets offsets preorder work₀ c j₀ work j = c - j
+μ-loop n m k sources actions targets offsets start work₀ c j₀ work j = c - j
 
 loop-holds : tie.Need-loop-holds Inv-loop μ-loop
 unfolding judgeWaiting

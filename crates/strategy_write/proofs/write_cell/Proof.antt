@@ -7,7 +7,7 @@ use lib.Seq.{sets}
 use denote.Ref.{now}
 use Rattle.lts.specs.Bounded.{restrict, concatBelow}
 use Rattle.lts.specs.declared.Entry.{Entry}
-use Rattle.lts.specs.Strategy.{numbersOf}
+use Rattle.lts.specs.Strategy.{entryNumbers}
 use Rattle.lts.specs.Table.{tableLts}
 use Rattle.relation.specs.Matrix.{relationOf}
 use Rattle.relation.proofs.Matrices.{pair-word}
@@ -46,7 +46,7 @@ returns : tie.Need-returns
 returns c = let s = c .before .before .before .before .before .before .before .before .before .before in
     let a = s .args in
     let leaves = sym (leaves-is (a .n) (relationOf (a .n) (now (a .before))) (relationOf (a .n) (now (a .after))) (a .p) (a .q) (s .pre .4) (s .pre .5) (c .before .before .before .before .before .before .has .ensures) (c .before .before .before .before .before .has2 .ensures)) ∙ c .before .before .before .before .if1 .taken in
-    (cell-next (tableLts (a .n) (a .m) (a .k) (now (a .sources)) (now (a .actions)) (now (a .targets))) (a .initial) (restrict (a .n) (relationOf (a .n) (now (a .before)))) (restrict (a .n) (relationOf (a .n) (now (a .after)))) (a .p) (a .q) (a .at) leaves, c .before .before .write-pair .ensures ∙ ap (λ (l : List Entry). sets (now (a .numbers)) (4 * a .at) (numbersOf l)) (sym (cell-leaves (tableLts (a .n) (a .m) (a .k) (now (a .sources)) (now (a .actions)) (now (a .targets))) (a .initial) (restrict (a .n) (relationOf (a .n) (now (a .before)))) (restrict (a .n) (relationOf (a .n) (now (a .after)))) (a .p) (a .q) leaves)))
+    (cell-next (tableLts (a .n) (a .m) (a .k) (now (a .sources)) (now (a .actions)) (now (a .targets))) (a .initial) (restrict (a .n) (relationOf (a .n) (now (a .before)))) (restrict (a .n) (relationOf (a .n) (now (a .after)))) (a .p) (a .q) (a .at) leaves, c .before .before .write-pair .ensures ∙ ap (λ (l : List Entry). sets (now (a .numbers)) (4 * a .at) (entryNumbers l)) (sym (cell-leaves (tableLts (a .n) (a .m) (a .k) (now (a .sources)) (now (a .actions)) (now (a .targets))) (a .initial) (restrict (a .n) (relationOf (a .n) (now (a .before)))) (restrict (a .n) (relationOf (a .n) (now (a .after)))) (a .p) (a .q) leaves)))
 
 returns-2 : tie.Need-returns-2
 returns-2 c = let s = c .before .before .before .before .before .before in

@@ -5,7 +5,7 @@ use native.Mathlib.Omega.{arith}
 use lib.ListN.{length}
 use lib.Seq.{sets, length-sets}
 use denote.Ref.{now}
-use Rattle.lts.specs.Strategy.{numbersOf, entriesBefore, strategyLength}
+use Rattle.lts.specs.Strategy.{entryNumbers, entriesBefore, strategyLength}
 use Rattle.lts.specs.Table.{tableLts}
 use Rattle.relation.specs.Matrix.{relationOf, matrixOf, Matrix}
 use Rattle.relation.proofs.Matrices.{formed-of, length-matrixOf}
@@ -41,8 +41,8 @@ write-pair-requires c κs = let s = c .before .before .before .before .before .b
     let copy = c .before .before .before .before .before .before .before .before .before .before .before .before .before .before .copy-matrix .ensures in
     let current = c .before .before .before .before .before .before .before .before .write-rounds .ensures .1 .0 ∙ ap (λ (l : List ℕ). matrixOf (a .n) (previous (tableLts (a .n) (a .m) (a .k) (now (a .sources)) (now (a .actions)) (now (a .targets))) (relationOf (a .n) l) (a .round))) copy in
     let at = c .before .before .before .before .before .before .before .before .write-rounds .ensures .0 ∙ ap (λ (l : List ℕ). length (entriesBefore (tableLts (a .n) (a .m) (a .k) (now (a .sources)) (now (a .actions)) (now (a .targets))) (relationOf (a .n) l) (a .round))) copy in
-    let numbers = c .before .before .before .before .before .before .before .before .write-rounds .ensures .1 .1 ∙ ap (λ (l : List ℕ). sets (now (a .numbers)) 0 (numbersOf (entriesBefore (tableLts (a .n) (a .m) (a .k) (now (a .sources)) (now (a .actions)) (now (a .targets))) (relationOf (a .n) l) (a .round)))) copy in
-    let size = ap length numbers ∙ length-sets (now (a .numbers)) 0 (numbersOf (entriesBefore (tableLts (a .n) (a .m) (a .k) (now (a .sources)) (now (a .actions)) (now (a .targets))) (relationOf (a .n) (now (a .preorder))) (a .round))) in (
+    let numbers = c .before .before .before .before .before .before .before .before .write-rounds .ensures .1 .1 ∙ ap (λ (l : List ℕ). sets (now (a .numbers)) 0 (entryNumbers (entriesBefore (tableLts (a .n) (a .m) (a .k) (now (a .sources)) (now (a .actions)) (now (a .targets))) (relationOf (a .n) l) (a .round)))) copy in
+    let size = ap length numbers ∙ length-sets (now (a .numbers)) 0 (entryNumbers (entriesBefore (tableLts (a .n) (a .m) (a .k) (now (a .sources)) (now (a .actions)) (now (a .targets))) (relationOf (a .n) (now (a .preorder))) (a .round))) in (
       s .pre .0,
       formed-of _ _ current,
       s .pre .2,
@@ -68,7 +68,7 @@ returns c = let s = c .before .before .before .before .before .before .before .b
     let copy = c .before .before .before .before .before .before .before .before .before .before .before .before .before .before .before .before .before .copy-matrix .ensures in
     let current = c .before .before .before .before .before .before .before .before .before .before .before .write-rounds .ensures .1 .0 ∙ ap (λ (l : List ℕ). matrixOf (a .n) (previous (tableLts (a .n) (a .m) (a .k) (now (a .sources)) (now (a .actions)) (now (a .targets))) (relationOf (a .n) l) (a .round))) copy in
     let at = c .before .before .before .before .before .before .before .before .before .before .before .write-rounds .ensures .0 ∙ ap (λ (l : List ℕ). length (entriesBefore (tableLts (a .n) (a .m) (a .k) (now (a .sources)) (now (a .actions)) (now (a .targets))) (relationOf (a .n) l) (a .round))) copy in
-    let numbers = c .before .before .before .before .before .before .before .before .before .before .before .write-rounds .ensures .1 .1 ∙ ap (λ (l : List ℕ). sets (now (a .numbers)) 0 (numbersOf (entriesBefore (tableLts (a .n) (a .m) (a .k) (now (a .sources)) (now (a .actions)) (now (a .targets))) (relationOf (a .n) l) (a .round)))) copy in
+    let numbers = c .before .before .before .before .before .before .before .before .before .before .before .write-rounds .ensures .1 .1 ∙ ap (λ (l : List ℕ). sets (now (a .numbers)) 0 (entryNumbers (entriesBefore (tableLts (a .n) (a .m) (a .k) (now (a .sources)) (now (a .actions)) (now (a .targets))) (relationOf (a .n) l) (a .round)))) copy in
     strategy-written (a .n) (a .m) (a .k) (now (a .sources)) (now (a .actions)) (now (a .targets)) (relationOf (a .n) (now (a .preorder))) (s .pre .0 .table) (a .p) (a .q) (a .round) (s .pre .4) (s .pre .5) (now (a .numbers)) current (s .pre .6) at numbers (c .before .before .write-pair .ensures)
 
 pub write-from-spec : {M : Type 1} → statement M

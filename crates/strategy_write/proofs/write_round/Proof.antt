@@ -7,7 +7,7 @@ use lib.Seq.{sets}
 use denote.Ref.{now}
 use Rattle.lts.specs.Bounded.{restrict, concatBelow}
 use Rattle.lts.specs.declared.Entry.{Entry}
-use Rattle.lts.specs.Strategy.{numbersOf}
+use Rattle.lts.specs.Strategy.{entryNumbers}
 use Rattle.lts.specs.Table.{tableLts}
 use Rattle.relation.specs.Matrix.{relationOf}
 use Rattle.strategy_write.specs.Writing.{rowEntries}
@@ -56,7 +56,7 @@ returns c = let s = c .before .before .before .before .before in
     let l = c .before .loop .inv in
     let end : c .before .loop .p ≡ a .n = omega (arith, l .0, c .loop-test .left) in
     let list = ap (λ (i : ℕ). concatBelow i (rowEntries (tableLts (a .n) (a .m) (a .k) (now (a .sources)) (now (a .actions)) (now (a .targets))) (a .initial) (restrict (a .n) (relationOf (a .n) (now (a .before)))) (restrict (a .n) (relationOf (a .n) (now (a .after)))))) end ∙ round-is (a .n) (a .m) (a .k) (now (a .sources)) (now (a .actions)) (now (a .targets)) (a .initial) (restrict (a .n) (relationOf (a .n) (now (a .before)))) (restrict (a .n) (relationOf (a .n) (now (a .after)))) in
-    (l .1 ∙ ap (λ (x : List Entry). a .first + length x) list, l .2 ∙ ap (λ (x : List Entry). sets (now (a .numbers)) (4 * a .first) (numbersOf x)) list)
+    (l .1 ∙ ap (λ (x : List Entry). a .first + length x) list, l .2 ∙ ap (λ (x : List Entry). sets (now (a .numbers)) (4 * a .first) (entryNumbers x)) list)
 
 pub write-round-spec : {M : Type 1} → statement M
 write-round-spec =

@@ -8,7 +8,7 @@ use denote.Ref.{now}
 use Rattle.lts.specs.Bounded.{restrict, concatBelow}
 use Rattle.lts.specs.Rounds.{round}
 use Rattle.lts.specs.declared.Entry.{Entry}
-use Rattle.lts.specs.Strategy.{numbersOf, entriesIn}
+use Rattle.lts.specs.Strategy.{entryNumbers, entriesIn}
 use Rattle.lts.specs.Table.{tableLts}
 use Rattle.relation.specs.Matrix.{inRow, relationOf, matrixOf}
 use Rattle.relation.proofs.Matrices.{matrix-relation, formed-of, length-matrixOf}
@@ -76,7 +76,7 @@ loop-again c = let s = c .before .before .before .before .before .before .before
       previous-next (a .n) (a .m) (a .k) (now (a .sources)) (now (a .actions)) (now (a .targets)) (relationOf (a .n) (now (a .next))) _ current,
       round-next (a .n) (a .m) (a .k) (now (a .sources)) (now (a .actions)) (now (a .targets)) (s .pre .0 .table) (relationOf (a .n) (now (a .next))) _ current (c .before .before .before .before .before .next-round .ensures),
       at-more (now (a .numbers)) 0 (entriesIn (tableLts (a .n) (a .m) (a .k) (now (a .sources)) (now (a .actions)) (now (a .targets))) (relationOf (a .n) (now (a .next)))) _ (l .3) (c .before .before .before .before .before .before .before .before .before .before .before .before .before .before .before .before .write-round .ensures .0 ∙ ap (λ (x : List Entry). c .before .before .before .before .before .before .before .before .before .before .before .before .before .before .before .before .before .before .before .before .before .loop .at + length x) entries),
-      written-more (now (a .numbers)) 0 (entriesIn (tableLts (a .n) (a .m) (a .k) (now (a .sources)) (now (a .actions)) (now (a .targets))) (relationOf (a .n) (now (a .next)))) _ (l .4) (l .3) (c .before .before .before .before .before .before .before .before .before .before .before .before .before .before .before .before .write-round .ensures .1 ∙ ap (λ (x : List Entry). sets (c .before .before .before .before .before .before .before .before .before .before .before .before .before .before .before .before .before .before .before .before .before .loop .numbers) (4 * c .before .before .before .before .before .before .before .before .before .before .before .before .before .before .before .before .before .before .before .before .before .loop .at) (numbersOf x)) entries),
+      written-more (now (a .numbers)) 0 (entriesIn (tableLts (a .n) (a .m) (a .k) (now (a .sources)) (now (a .actions)) (now (a .targets))) (relationOf (a .n) (now (a .next)))) _ (l .4) (l .3) (c .before .before .before .before .before .before .before .before .before .before .before .before .before .before .before .before .write-round .ensures .1 ∙ ap (λ (x : List Entry). sets (c .before .before .before .before .before .before .before .before .before .before .before .before .before .before .before .before .before .before .before .before .before .loop .numbers) (4 * c .before .before .before .before .before .before .before .before .before .before .before .before .before .before .before .before .before .before .before .before .before .loop .at) (entryNumbers x)) entries),
       settled-next (a .n) (a .m) (a .k) (now (a .sources)) (now (a .actions)) (now (a .targets)) (s .pre .0 .table) _ (c .before .before .before .before .before .next-round .ensures) (c .same-rows .ensures),
     )
 
@@ -105,7 +105,7 @@ returns c = let s = c .before .before .before .before .before in
       size ∙ ap (λ (x : List Entry). length x) list,
       (
         l .1 ∙ ap (λ (i : ℕ). matrixOf (a .n) (previous (tableLts (a .n) (a .m) (a .k) (now (a .sources)) (now (a .actions)) (now (a .targets))) (relationOf (a .n) (now (a .next))) i)) end,
-        l .4 ∙ ap (λ (x : List Entry). sets (now (a .numbers)) 0 (numbersOf x)) list,
+        l .4 ∙ ap (λ (x : List Entry). sets (now (a .numbers)) 0 (entryNumbers x)) list,
       ),
     )
 

@@ -1,0 +1,58 @@
+-- `coarsest_on_bytes` meets its contract, whatever the schedule's length.
+use mathlib.Core.Path.{sym}
+use native.Mathlib.Omega.{arith}
+use lib.Seq.{length-take-le}
+use borrow.Author.Needs.{needs}
+use Rattle.coarsest_bytes.proofs.Promise.{meets}
+use Rattle.coarsest_bytes.proofs.coarsest_on_bytes.Statement.{statement}
+use Rattle.coarsest_bytes.proofs.coarsest_on_bytes.Tie as tie
+
+load-grid-requires : tie.Need-load-grid-requires
+load-grid-requires c κs = search needs
+
+array-share-prefix-words : tie.Need-array-share-prefix-words
+array-share-prefix-words c = omega (arith, c .load-grid .ensures .few)
+
+slice-aggregate-start-words : tie.Need-slice-aggregate-start-words
+slice-aggregate-start-words c =
+    sym (length-take-le _ _ (omega (arith, c .before .load-grid .ensures .few, c .before .load-grid .ensures .long)))
+
+coarsest-short-requires : tie.Need-coarsest-short-requires
+coarsest-short-requires c κs = c .before .before .if1 .taken
+
+same-length : tie.Need-same-length
+same-length c = search needs
+
+same-length-2 : tie.Need-same-length-2
+same-length-2 c = search needs
+
+returns : tie.Need-returns
+returns c = meets (c .before .before .before .before .before .before .before .before .before .load-grid .ensures .loaded) (c .before .before .before .before .coarsest-short .ensures)
+
+coarsest-long-requires : tie.Need-coarsest-long-requires
+coarsest-long-requires c κs = search needs
+
+same-length-3 : tie.Need-same-length-3
+same-length-3 c = search needs
+
+same-length-4 : tie.Need-same-length-4
+same-length-4 c = search needs
+
+returns-2 : tie.Need-returns-2
+returns-2 c = meets (c .before .before .before .before .before .before .before .before .before .load-grid .ensures .loaded) (c .before .before .before .before .coarsest-long .ensures)
+
+pub coarsest-on-bytes-spec : {M : Type 1} → statement M
+coarsest-on-bytes-spec =
+    tie.close
+    (tie.spec
+    load-grid-requires
+    array-share-prefix-words
+    slice-aggregate-start-words
+    coarsest-short-requires
+    same-length
+    same-length-2
+    returns
+    coarsest-long-requires
+    same-length-3
+    same-length-4
+    returns-2)

@@ -1,0 +1,10 @@
+pub mod Bytes
+pub mod NormalReads
+pub mod NormalChains
+pub mod NormalSame
+pub mod Ordered
+pub mod NormalOrder
+pub mod NormalOnly
+pub mod Laws
+pub mod Outcomes
+pub mod Cases

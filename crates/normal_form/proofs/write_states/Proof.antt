@@ -1,0 +1,66 @@
+-- `encoding::write_states` meets its contract: the loop has written the records below p.
+use Rattle.normal_form.proofs.Bytes.{states-none, states-step}
+use Rattle.encoding.specs.Loaded.{tableStates}
+use lib.Seq.{sets}
+use lib.ListN.{length}
+use mathlib.Core.Path.{_≡_, _∙_, refl}
+use Prim.Native.Nat.{_-_, _≤_}
+use native.Mathlib.Omega.{arith}
+use borrow.Author.Needs.{needs}
+use Rattle.normal_form.proofs.write_states.Statement.{statement}
+use Rattle.normal_form.proofs.write_states.Tie as tie
+
+abbrev Inv-loop : tie.InvT-loop
+Inv-loop out₀ h marks offsets n p₀ out p = (p ≤ h .states) × (length out ≡ length out₀) × (out ≡ sets out₀ 6 (tableStates marks offsets p))
+
+abbrev μ-loop : tie.MeasureT-loop
+μ-loop out₀ h marks offsets n p₀ out p = h .states - p
+
+loop-holds : tie.Need-loop-holds Inv-loop μ-loop
+loop-holds c = (search needs, refl, states-none _ _ _)
+
+table-state-requires : tie.Need-table-state-requires Inv-loop μ-loop
+table-state-requires c κs = search needs
+
+state-at-requires : tie.Need-state-at-requires Inv-loop μ-loop
+state-at-requires c κs = search needs
+
+put-requires : tie.Need-put-requires Inv-loop μ-loop
+put-requires c κs = search needs
+
+add-p : tie.Need-add-p Inv-loop μ-loop
+add-p c = search needs
+
+loop-less : tie.Need-loop-less Inv-loop μ-loop
+loop-less c = search needs
+
+loop-again : tie.Need-loop-again Inv-loop μ-loop
+loop-again c = let v = c .before .before .before .before .before .before .before .loop .inv in (
+  search needs,
+  c .before .before .put .kept .1 .0 ∙ v .1,
+  states-step _ _ (c .before .before .before .before .before .before .before .loop .p) _ _ _ (v .2) (c .before .before .before .before .before .table-state .ensures) (c .before .before .put .ensures ∙ rw (c .before .before .before .state-at .ensures)),
+)
+
+same-length : tie.Need-same-length Inv-loop μ-loop
+same-length c = search needs
+
+returns : tie.Need-returns Inv-loop μ-loop
+returns c = let v = c .before .loop .inv in
+    let e : c .before .before .before .args .h .states ≡ c .before .loop .p = omega arith in
+    rw e (v .2)
+
+pub write-states-spec : {M : Type 1} → statement M
+write-states-spec =
+    tie.close
+    (tie.spec
+    Inv-loop
+    μ-loop
+    loop-holds
+    table-state-requires
+    state-at-requires
+    put-requires
+    add-p
+    loop-less
+    loop-again
+    same-length
+    returns)

@@ -1,0 +1,45 @@
+-- Normal form in document 01's words ("The sheet"): records ordered by source page, then action, then target; each chain consecutive and in
+-- that order. The law `normal-form` (proofs/Laws.antt) says that `normal` writes it, and that there is no other.
+use Prim.Native.Nat.{ℕ, suc, _+_, _<_}
+use mathlib.Core.Path.{_≡_}
+use mathlib.Core.Bool.{Bool, true, _&&_, _||_}
+use mathlib.Core.List.{List}
+use lib.ListN.{length, getD}
+use lib.Dec.{ltb, eqb}
+use Rattle.lts.specs.Bounded.{allBelow, listBelow}
+use Rattle.encoding.specs.declared.Header.{Header}
+use Rattle.encoding.specs.declared.TransitionRecord.{TransitionRecord}
+use Rattle.encoding.specs.declared.Reading.the-variants.{Readable}
+use Rattle.encoding.specs.Records.{headerOf, transitionRecord}
+use Rattle.encoding.specs.Encoding.{reached, readEncoding}
+use Rattle.encoding.specs.Denotation.{ltsOf}
+
+-- r comes before q: by action, then target
+unfoldable pub before : TransitionRecord → TransitionRecord → Bool
+before r q = ltb (r .action) (q .action) || eqb (r .action) (q .action) && ltb (r .target) (q .target)
+
+-- record j ends its chain, or comes before the next record of its chain
+unfoldable pub inOrder : List ℕ → Header → ℕ → Bool
+inOrder s h j = let r = transitionRecord s h j in eqb (r .next) 0 || before r (transitionRecord s h (r .next))
+
+-- the encoding is in normal form
+pub record IsNormal (s : List ℕ) (h : Header) : Type 0 where
+  -- by source, each chain consecutive: the chains of the states 0, 1, .., one after the other, are the records 1, 2, .., k
+  pub consecutive : reached s h (h .states) ≡ listBelow (h .transitions) suc
+  -- then by action, then target, along each chain
+  pub ordered : allBelow (h .transitions) (λ i. inOrder s h (i + 1)) ≡ true
+
+-- each number is below 256 (those of a slice of bytes are)
+abbrev pub IsBytes : List ℕ → Type 0
+IsBytes s = (i : ℕ) → i < length s → getD s i 0 < 256
+
+-- t is the normal form of s
+pub record NormalForm (s t : List ℕ) : Type 0 where
+  -- it is a sequence of bytes, of the length of s; it is read, with the header of s, and denotes the same Lts
+  pub bytes : IsBytes t
+  pub long : length t ≡ length s
+  pub reads : readEncoding t ≡ Readable (headerOf s)
+  pub same : ltsOf t ≡ ltsOf s
+  -- it is in normal form, and there is no other: every readable sequence of bytes in normal form that denotes this Lts is t
+  pub normal : IsNormal t (headerOf s)
+  pub only : (u : List ℕ) (h : Header) → IsBytes u → readEncoding u ≡ Readable h → IsNormal u h → ltsOf u ≡ ltsOf s → u ≡ t

@@ -1,0 +1,83 @@
+-- What each export says, from what its call says: of the reply that the result unpacks to.
+use Prim.Native.Nat.{ℕ}
+use mathlib.Core.Path.{_≡_, sym, ap, subst, _∙_}
+use mathlib.Core.List.{List}
+use Rattle.lts.specs.declared.Entry.{Entry}
+use Rattle.lts.specs.Rule.{Reply}
+use Rattle.normal_form.specs.Normalise.{NormaliseOutcome, normaliseCall, NormalisePromise}
+use Rattle.simulation.specs.Calls.{TerminationOutcome, simulationCall, SimulationPromise}
+use Rattle.game.specs.Play.{playCall, PlayPromise}
+use Rattle.comparison.specs.Call.{compareCall, ComparePromise}
+use Rattle.strategy.specs.Check.{checkCall, CheckPromise}
+use Rattle.strategy.specs.Write.{WriteOutcome, writeCall, WritePromise}
+use Rattle.strategy_bytes.specs.Bytes.{entryBytes, entriesOfBytes}
+use Rattle.coarsest.specs.Call.{CoarsestOutcome}
+use Rattle.coarsest_bytes.specs.Call.{coarsestOnBytes, CoarsestBytesPromise}
+use Rattle.release.specs.Packed.{packed, unpacked, coarsestPlaces, comparePlaces, pairPlaces, onePlace, noPlace}
+use Rattle.release.specs.EndStart.{endStartOnBytes, EndStartBytesPromise}
+use Rattle.release.proofs.Replies.{Kept, carried, exact, exported}
+use Rattle.release.proofs.EndStarts.{end-start-promised}
+
+pub compare-exported : {first second : List ℕ} {reply : Reply} {x : ℕ} → compareCall first second ≡ reply → ComparePromise first second reply
+    → x ≡ packed comparePlaces reply → Kept comparePlaces reply
+    → (compareCall first second ≡ unpacked comparePlaces x)
+    × ((x ≡ packed comparePlaces (unpacked comparePlaces x)) × ComparePromise first second (unpacked comparePlaces x))
+compare-exported {first} {second} e p = exported comparePlaces (ComparePromise first second) e p
+
+pub play-exported : {s start words : List ℕ} {p q rounds : ℕ} {reply : Reply} {x : ℕ} → words ≡ start → playCall s words p q rounds ≡ reply
+    → PlayPromise s words p q rounds reply → x ≡ packed onePlace reply → Kept onePlace reply
+    → (playCall s start p q rounds ≡ unpacked onePlace x)
+    × ((x ≡ packed onePlace (unpacked onePlace x)) × PlayPromise s start p q rounds (unpacked onePlace x))
+play-exported {s} {start} {words} {p} {q} {rounds} w e h k l = rw (← w) (exported onePlace (PlayPromise s words p q rounds) e h k l)
+
+pub simulation-exported : {s start claim words others : List ℕ} {reply : Reply} {x : ℕ} → words ≡ start → others ≡ claim
+    → simulationCall s words others ≡ reply → SimulationPromise s words others reply → x ≡ packed onePlace reply → Kept onePlace reply
+    → (simulationCall s start claim ≡ unpacked onePlace x)
+    × ((x ≡ packed onePlace (unpacked onePlace x)) × SimulationPromise s start claim (unpacked onePlace x))
+simulation-exported {s} {start} {claim} {words} {others} w v e h k l = rw (← w, ← v) (exported onePlace (SimulationPromise s words others) e h k l)
+
+pub normalise-exported : {s out₀ out : List ℕ} {reply : Reply} {x : ℕ} → normaliseCall s out₀ ≡ record { reply = reply; out = out }
+    → NormalisePromise s out₀ reply out → x ≡ packed noPlace reply → Kept noPlace reply
+    → (normaliseCall s out₀ ≡ record { reply = unpacked noPlace x; out = out })
+    × ((x ≡ packed noPlace (unpacked noPlace x)) × NormalisePromise s out₀ (unpacked noPlace x) out)
+normalise-exported {s} {out₀} {out} e p k l =
+    let c = carried noPlace k l in
+    (e ∙ ap (λ (y : Reply). record { reply = y; out = out }) c, (exact noPlace k l, subst (λ (y : Reply). NormalisePromise s out₀ y out) c p))
+
+pub end-start-exported : {s grid₀ grid : List ℕ} {reply : Reply} {x : ℕ} → endStartOnBytes s grid₀ ≡ record { reply = reply; grid = grid }
+    → x ≡ packed noPlace reply → Kept noPlace reply
+    → (endStartOnBytes s grid₀ ≡ record { reply = unpacked noPlace x; grid = grid })
+    × ((x ≡ packed noPlace (unpacked noPlace x)) × EndStartBytesPromise s grid₀ (unpacked noPlace x) grid)
+end-start-exported {s} {grid₀} {grid} e k l =
+    let f = e ∙ ap (λ (y : Reply). record { reply = y; grid = grid }) (carried noPlace k l) in
+    (f, (exact noPlace k l, end-start-promised s grid₀ _ grid f))
+
+pub coarsest-exported : {s start schedule grid₀ representatives₀ grid representatives : List ℕ} {reply : Reply} {x : ℕ}
+    → coarsestOnBytes s start schedule grid₀ representatives₀ ≡ record { reply = reply; grid = grid; representatives = representatives }
+    → CoarsestBytesPromise s start schedule grid₀ representatives₀ reply grid representatives → x ≡ packed coarsestPlaces reply → Kept coarsestPlaces reply
+    → (coarsestOnBytes s start schedule grid₀ representatives₀ ≡ record { reply = unpacked coarsestPlaces x; grid = grid; representatives = representatives })
+    × ((x ≡ packed coarsestPlaces (unpacked coarsestPlaces x))
+    × CoarsestBytesPromise s start schedule grid₀ representatives₀ (unpacked coarsestPlaces x) grid representatives)
+coarsest-exported {s} {start} {schedule} {grid₀} {representatives₀} {grid} {representatives} e p k l =
+    let c = carried coarsestPlaces k l in (
+      e ∙ ap (λ (y : Reply). record { reply = y; grid = grid; representatives = representatives }) c,
+      (exact coarsestPlaces k l, subst (λ (y : Reply). CoarsestBytesPromise s start schedule grid₀ representatives₀ y grid representatives) c p),
+    )
+
+pub check-exported : {s start words : List ℕ} {entries : List Entry} {reply : Reply} {x : ℕ} → words ≡ start → checkCall s words entries ≡ reply
+    → CheckPromise s words entries reply → x ≡ packed pairPlaces reply → Kept pairPlaces reply
+    → (checkCall s start entries ≡ unpacked pairPlaces x)
+    × ((x ≡ packed pairPlaces (unpacked pairPlaces x)) × CheckPromise s start entries (unpacked pairPlaces x))
+check-exported {s} {start} {words} {entries} w e h k l = rw (← w) (exported pairPlaces (CheckPromise s words entries) e h k l)
+
+pub write-exported : {s start words plan₀ plan : List ℕ} {p q : ℕ} {reply : Reply} {x : ℕ} → words ≡ start
+    → writeCall entryBytes 8 s words p q plan₀ ≡ record { reply = reply; plan = plan }
+    → WritePromise entriesOfBytes 8 s words p q plan₀ reply plan → x ≡ packed onePlace reply → Kept onePlace reply
+    → (writeCall entryBytes 8 s start p q plan₀ ≡ record { reply = unpacked onePlace x; plan = plan })
+    × ((x ≡ packed onePlace (unpacked onePlace x)) × WritePromise entriesOfBytes 8 s start p q plan₀ (unpacked onePlace x) plan)
+write-exported {s} {start} {words} {plan₀} {plan} {p} {q} w e h k l =
+    let c = carried onePlace k l in
+    rw (← w) (
+      e ∙ ap (λ (y : Reply). record { reply = y; plan = plan }) c,
+      (exact onePlace k l, subst (λ (y : Reply). WritePromise entriesOfBytes 8 s words p q plan₀ y plan) c h),
+    )
