@@ -1,5 +1,4 @@
--- F1 to F9 of document 01 ("Flows on each side"), as one computed theorem about the calls' own definitions, on the bytes of the sheets; then
--- the rule for what is past a plan's last whole entry, and a turn list with an odd byte.
+-- F1 to F9 of document 01 ("Flows on each side"), as one computed theorem about the calls' own definitions, on the bytes of the sheets.
 use Prim.Native.Nat.{ℕ}
 use mathlib.Core.Bool.{xor}
 use mathlib.Core.List.{List, [], _∷_}
