@@ -1,32 +1,32 @@
 -- The run on a table and on an encoding; the rules of coarsest, part by part; and what the call comes to.
-use Prim.Native.Nat.{ℕ, zero, _*_, _≤_, _<_}
+use Prim.Native.Nat.{ℕ, _*_, _<_}
 use mathlib.Core.Path.{_≡_, refl, sym, ap, subst, _∙_}
 use mathlib.Core.Bool.{Bool, true, false, cond, not, _&&_, _||_}
 use mathlib.Core.List.{List, [], _∷_}
 use lib.Dec.{T, eqb, eqb→eq}
-use lib.ListN.{length, take, replicate, length-replicate}
-use lib.Seq.{length-take-le}
+use lib.ListN.{length}
 use borrow.Author.Tests.{eq-eqb, not-false}
 use Rattle.lts.specs.Bounded.{sumBelow, countBelow, listBelow, lowest}
-use Rattle.lts.specs.System.{Set, Rel, Lts, WellFormed}
-use Rattle.lts.specs.Refinement.{Relations, Run, block, pairCount, blockCount, representatives as representativesOf, representative, isRepresentative, coarsest}
-use Rattle.lts.specs.Table.{tableLts, withTerminating, Table}
+use Rattle.lts.specs.System.{Rel, Lts}
+use Rattle.lts.specs.Refinement.{Run, block, pairCount, blockCount, representatives as representativesOf, coarsest}
 use Rattle.lts.specs.declared.Refusal.{Refusal}
 use Rattle.lts.specs.declared.Refusal.the-variants.{Buffer}
-use Rattle.lts.specs.Rule.{Rule, _otherwise_, Nothing, First, broken}
+use Rattle.lts.specs.Rule.{_otherwise_, Nothing, First, broken}
 use Rattle.lts.proofs.Bounded.{test-ext, and-iff}
 use Rattle.lts.proofs.System.{Preorder, preorder-iff}
 use Rattle.lts.proofs.Step.{block-iff}
 use Rattle.lts.proofs.Run.{Coarsest, coarsest-is}
-use Rattle.lts.proofs.Table.{table-formed, coarsest-terminating}
 use Rattle.lts.proofs.Rule.{stop, pass, done, first-part, second-part, refuses, passes}
 use Rattle.encoding.specs.Records.{headerOf}
 use Rattle.inputs.specs.Inputs.{inputRules}
 use Rattle.encoding.specs.Denotation.{ltsOf}
-use Rattle.relation.specs.Matrix.{rowWords, relationOf, matrixOf, Matrix, pairCount as pairsBelow}
+use Rattle.rows.specs.Rows.{rowWords}
+use Rattle.transitions.specs.Table.{statesOf, tableLts, Formed}
+use Rattle.transitions.proofs.Entries.{table-formed}
+use Rattle.relation.specs.Matrix.{relationOf, matrixOf, Matrix, pairCount as pairsBelow}
 use Rattle.relation.specs.Check.{startRules}
-use Rattle.relation.proofs.Bounded.{sum-cong}
-use Rattle.relation.proofs.Matrices.{relation-of}
+use Rattle.lts.proofs.Below.{sum-cong}
+use Rattle.relation.proofs.Matrices.{relation-of, formed-of}
 use Rattle.relation.proofs.Checks.{checked-matrix, checked-reflexive, checked-transitive}
 use Rattle.partition.specs.Pending.{Reflexive}
 use Rattle.partition.proofs.Laws as partition
@@ -71,8 +71,8 @@ module _ (L : Lts) (r : Run) (n : ℕ) (size : L .states ≡ n) (related blocks 
       sum-cong n _ _ (λ p l. sum-cong n _ _ (λ q m. ap (λ (b : Bool). cond b 1 0) (relation-of n _ related-is p q l m)))
       ∙ ap (λ (k : ℕ). sumBelow k (λ p. sumBelow k (λ q. cond (K p q) 1 0))) (sym size)
 
-  pub blocks-reflexive : (preorder : Rel) → Coarsest L preorder K → Reflexive n (relationOf n blocks)
-  blocks-reflexive preorder is = record {
+  pub blocks-reflexive : (start : Rel) → Coarsest L start K → Reflexive n (relationOf n blocks)
+  blocks-reflexive start is = record {
     loop = λ p l.
         let k = is .loop p (subst (λ (x : ℕ). p < x) (sym size) l) in
         same-blocks p p l l ∙ test-ext (block K p p) true (λ _. tt) (λ _. block-iff K p p .1 (k, k));
@@ -81,57 +81,61 @@ module _ (L : Lts) (r : Run) (n : ℕ) (size : L .states ≡ n) (related blocks 
 -- ---- a start that was checked, and the run on a table
 
 pub start-of : (n : ℕ) (start : List ℕ) → broken (startRules n start) ≡ Nothing → Start n start
-unfolding tableLts
 start-of n start e = record { matrix = checked-matrix n start e; loop = pre .loop; chain = pre .chain }
   where
     L : Lts
-    L = tableLts n 0 0 [] [] []
+    L = record { states = n; actions = 0; terminating = λ p. false; transition = λ p a q. false }
 
     pre : Preorder L (relationOf n start)
     pre = preorder-iff L (relationOf n start) .0 (checked-reflexive n start e L refl, checked-transitive n start e L refl)
 
-module _ (n m k : ℕ) (sources actions targets : List ℕ) (tab : Table n m k sources actions targets) (start : List ℕ) (st : Start n start) (schedule : List ℕ) where
+module _ {t start : List ℕ} (ok : Formed t) (st : Start (statesOf t) start) (schedule : List ℕ) where
   abbrev L : Lts
-  L = tableLts n m k sources actions targets
+  L = tableLts t
 
   abbrev tableRun : Run
-  tableRun = coarsest L (relationOf n start) schedule
+  tableRun = coarsest L (relationOf (statesOf t) start) schedule
 
-  states-are : L .states ≡ n
-  unfolding tableLts
-  states-are = refl
-
-  pre : Preorder L (relationOf n start)
+  pre : Preorder L (relationOf (statesOf t) start)
   unfolding tableLts
   pre = record { loop = st .loop; chain = st .chain }
 
-  module _ (related blocks : List ℕ) (related-is : related ≡ matrixOf n (tableRun .final .related)) (blocks-is : blocks ≡ matrixOf n (block (tableRun .final .related))) where
+  module _ {n : ℕ} (states-are : n ≡ statesOf t) {related blocks : List ℕ} (related-is : related ≡ matrixOf (statesOf t) (tableRun .final .related))
+      (blocks-is : blocks ≡ matrixOf (statesOf t) (block (tableRun .final .related))) where
+    size : L .states ≡ n
+    unfolding tableLts
+    size = sym states-are
+
+    related-at : related ≡ matrixOf n (tableRun .final .related)
+    related-at = related-is ∙ ap (λ (n : ℕ). matrixOf n (tableRun .final .related)) (sym states-are)
+
+    blocks-at : blocks ≡ matrixOf n (block (tableRun .final .related))
+    blocks-at = blocks-is ∙ ap (λ (n : ℕ). matrixOf n (block (tableRun .final .related))) (sym states-are)
+
+    pub table-related : Matrix n related
+    table-related = formed-of n _ related-at
+
+    pub table-blocks : Matrix n blocks
+    table-blocks = formed-of n _ blocks-at
+
     pub table-reflexive : Reflexive n (relationOf n blocks)
-    table-reflexive = blocks-reflexive L tableRun n states-are related blocks related-is blocks-is (relationOf n start)
-        (coarsest-is L (table-formed n m k sources actions targets tab) (relationOf n start) pre schedule)
+    table-reflexive = blocks-reflexive L tableRun n size related blocks related-at blocks-at (relationOf (statesOf t) start)
+        (coarsest-is L (table-formed t ok) (relationOf (statesOf t) start) pre schedule)
 
     pub table-refined : {steps pairs count : ℕ} {representatives : List ℕ} → steps ≡ tableRun .steps → pairs ≡ pairsBelow n (relationOf n related)
         → count ≡ countBelow n (λ p. eqb (lowest n (relationOf n blocks p)) p) → representatives ≡ listBelow n (λ p. lowest n (relationOf n blocks p))
-        → refined L (relationOf n start) schedule ≡ record { reply = coarsestReply (Done (record { steps = steps; pairs = pairs; blocks = count })); grid = related; representatives = representatives }
+        → refined L (relationOf (statesOf t) start) schedule
+        ≡ record { reply = coarsestReply (Done (record { steps = steps; pairs = pairs; blocks = count })); grid = related; representatives = representatives }
     unfolding refined coarsestReply
     table-refined {representatives = representatives} a b c e =
         rw (
           a,
-          b ∙ pairs-count L tableRun n states-are related blocks related-is blocks-is,
-          c ∙ blocks-count L tableRun n states-are related blocks related-is blocks-is,
-          names-is L tableRun n states-are related blocks related-is blocks-is representatives e,
-          related-is,
-          states-are,
+          b ∙ pairs-count L tableRun n size related blocks related-at blocks-at,
+          c ∙ blocks-count L tableRun n size related blocks related-at blocks-at,
+          names-is L tableRun n size related blocks related-at blocks-at representatives e,
+          related-at,
+          size,
         )
-
--- the first k words of an array of zeros
-pub prefix-long : (k n : ℕ) → k ≤ n → length (take k (replicate {A = ℕ} n 0)) ≡ k
-prefix-long k n l = length-take-le k (replicate {A = ℕ} n 0) (subst (λ (x : ℕ). k ≤ x) (sym (length-replicate n zero)) l)
-
--- the marks of a system do not matter to its run
-pub refined-terminating : (X : Set) (L : Lts) (start : Rel) (schedule : List ℕ) → refined (withTerminating X L) start schedule ≡ refined L start schedule
-unfolding refined pairCount blockCount isRepresentative representative representativesOf withTerminating
-refined-terminating X L start schedule = rw (coarsest-terminating X L start schedule)
 
 -- ---- the rules, part by part
 

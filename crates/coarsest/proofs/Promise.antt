@@ -25,8 +25,9 @@ use Rattle.inputs.proofs.Laws.{kept-ready}
 use Rattle.encoding.specs.Denotation.{ltsOf}
 use Rattle.encoding.proofs.Reader.{reads}
 use Rattle.encoding.proofs.Laws.{denoted}
-use Rattle.relation.specs.Matrix.{rowWords, relationOf, matrixOf, Matrix}
-use Rattle.relation.proofs.Bounded.{length-listBelow, getD-listBelow}
+use Rattle.rows.specs.Rows.{rowWords}
+use Rattle.relation.specs.Matrix.{relationOf, matrixOf, Matrix}
+use Rattle.lts.proofs.Below.{length-listBelow, getD-listBelow}
 use Rattle.relation.proofs.Matrices.{relation-of, formed-of}
 use Rattle.relation.proofs.Checks.{checked-reflexive, checked-transitive}
 use Rattle.coarsest.specs.Call.{CoarsestOutcome, coarsestRules, refined, coarsestCall, Found, gridRelation, CoarsestPromise}

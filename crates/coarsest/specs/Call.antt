@@ -14,7 +14,8 @@ use Rattle.lts.specs.declared.Refusal.the-variants.{Buffer}
 use Rattle.lts.specs.Rule.{Rule, _otherwise_, Nothing, First, broken, checked, Reply, refused, given}
 use Rattle.encoding.specs.Records.{headerOf}
 use Rattle.encoding.specs.Denotation.{ltsOf}
-use Rattle.relation.specs.Matrix.{rowWords, relationOf, matrixOf, Matrix}
+use Rattle.rows.specs.Rows.{rowWords}
+use Rattle.relation.specs.Matrix.{relationOf, matrixOf, Matrix}
 use Rattle.inputs.specs.Inputs.{inputRules}
 use Rattle.coarsest.specs.declared.Counts.{Counts}
 use Rattle.coarsest.specs.declared.Answer.{Answer}

@@ -2,9 +2,10 @@
 ghost use mathlib.Core.Path.{_≡_};
 ghost use Prim.Native.Nat.{_*_};
 ghost use lib.ListN.{length};
-ghost use Rattle.lts.specs.Table.{tableLts, Table};
 ghost use Rattle.encoding.specs.Denotation.{ltsOf};
-ghost use Rattle.relation.specs.Matrix.{rowWords, relationOf};
+ghost use Rattle.rows.specs.Rows.{rowWords};
+ghost use Rattle.transitions.specs.Table.{statesOf, tableLts, Formed};
+ghost use Rattle.relation.specs.Matrix.{relationOf};
 ghost use Rattle.inputs.specs.Inputs.{Ready};
 ghost use Rattle.refinement.specs.Engine.{Start};
 ghost use Rattle.coarsest.specs.declared.Answer.the-variants.{Done};
@@ -25,12 +26,7 @@ pub enum Answer {
 
 // The run on a table: K, the representatives and the counts. V and the blocks are the caller's.
 fn refine_in(
-    n: usize,
-    m: usize,
-    k: usize,
-    sources: &[u16; 1024],
-    actions: &[u8; 1024],
-    targets: &[u16; 1024],
+    table: &transitions::Table,
     start: &[u64],
     schedule: &[u16],
     related: &mut [u64],
@@ -38,25 +34,15 @@ fn refine_in(
     viewed: &mut [u64],
     blocks: &mut [u64],
 ) -> Counts
-    requires { ⌜ Table n m k (now sources) (now actions) (now targets) × Start n (now start) × (length (now representatives) ≡ n) ⌝ }
-    requires { ⌜ (length (now related) ≡ n * rowWords n) × (length (now viewed) ≡ n * rowWords n) × (length (now blocks) ≡ n * rowWords n) ⌝ }
-    ensures { λ r. ⌜ refined (tableLts n m k (now (sources .entry)) (now (actions .entry)) (now (targets .entry)))
-        (relationOf n (now (start .entry))) (now (schedule .entry))
-        ≡ record { reply = coarsestReply (Done r); grid = now (related .exit); representatives = now (representatives .exit) } ⌝ }
+    requires { ⌜ Formed (now table) × Start (statesOf (now table)) (now start) × (length (now representatives) ≡ statesOf (now table)) ⌝ }
+    requires { ⌜ (let words = statesOf (now table) * rowWords (statesOf (now table)) in
+        (length (now related) ≡ words) × (length (now viewed) ≡ words) × (length (now blocks) ≡ words)) ⌝ }
+    ensures { λ r. ⌜ (let t = now (table .entry) in
+        refined (tableLts t) (relationOf (statesOf t) (now (start .entry))) (now (schedule .entry))
+        ≡ record { reply = coarsestReply (Done r); grid = now (related .exit); representatives = now (representatives .exit) }) ⌝ }
 {
-    let steps = refinement::refine_all(
-        n,
-        m,
-        k,
-        sources,
-        actions,
-        targets,
-        start,
-        schedule,
-        related,
-        viewed,
-        blocks,
-    );
+    let steps = refinement::refine_all(table, start, schedule, related, viewed, blocks);
+    let n = transitions::states(table);
     partition::write_names(blocks, n, representatives);
     Counts {
         steps: steps,
@@ -65,78 +51,31 @@ fn refine_in(
     }
 }
 
-// The same, with V the caller's.
-fn refine_viewed(
-    n: usize,
-    m: usize,
-    k: usize,
-    sources: &[u16; 1024],
-    actions: &[u8; 1024],
-    targets: &[u16; 1024],
-    start: &[u64],
-    schedule: &[u16],
-    related: &mut [u64],
-    representatives: &mut [u16],
-    viewed: &mut [u64],
-) -> Counts
-    requires { ⌜ Table n m k (now sources) (now actions) (now targets) × Start n (now start) × (length (now representatives) ≡ n) ⌝ }
-    requires { ⌜ (length (now related) ≡ n * rowWords n) × (length (now viewed) ≡ n * rowWords n) ⌝ }
-    ensures { λ r. ⌜ refined (tableLts n m k (now (sources .entry)) (now (actions .entry)) (now (targets .entry)))
-        (relationOf n (now (start .entry))) (now (schedule .entry))
-        ≡ record { reply = coarsestReply (Done r); grid = now (related .exit); representatives = now (representatives .exit) } ⌝ }
-{
-    let mut blocks = [0u64; 1024];
-    let w = (n + 63) / 64;
-    let size = n * w;
-    refine_in(
-        n,
-        m,
-        k,
-        sources,
-        actions,
-        targets,
-        start,
-        schedule,
-        related,
-        representatives,
-        viewed,
-        &mut blocks[..size],
-    )
-}
-
 // The run on a table: K, the representatives and the counts.
 pub fn refine_table(
-    n: usize,
-    m: usize,
-    k: usize,
-    sources: &[u16; 1024],
-    actions: &[u8; 1024],
-    targets: &[u16; 1024],
+    table: &transitions::Table,
     start: &[u64],
     schedule: &[u16],
     related: &mut [u64],
     representatives: &mut [u16],
 ) -> Counts
-    requires { ⌜ Table n m k (now sources) (now actions) (now targets) × Start n (now start) × (length (now representatives) ≡ n) × (length (now related) ≡ n * rowWords n) ⌝ }
-    ensures { λ r. ⌜ refined (tableLts n m k (now (sources .entry)) (now (actions .entry)) (now (targets .entry)))
-        (relationOf n (now (start .entry))) (now (schedule .entry))
-        ≡ record { reply = coarsestReply (Done r); grid = now (related .exit); representatives = now (representatives .exit) } ⌝ }
+    requires { ⌜ Formed (now table) × Start (statesOf (now table)) (now start) × (length (now representatives) ≡ statesOf (now table))
+        × (length (now related) ≡ statesOf (now table) * rowWords (statesOf (now table))) ⌝ }
+    ensures { λ r. ⌜ (let t = now (table .entry) in
+        refined (tableLts t) (relationOf (statesOf t) (now (start .entry))) (now (schedule .entry))
+        ≡ record { reply = coarsestReply (Done r); grid = now (related .exit); representatives = now (representatives .exit) }) ⌝ }
 {
     let mut viewed = [0u64; 1024];
-    let w = (n + 63) / 64;
-    let size = n * w;
-    refine_viewed(
-        n,
-        m,
-        k,
-        sources,
-        actions,
-        targets,
+    let mut blocks = [0u64; 1024];
+    let size = relation::matrix_words(transitions::states(table));
+    refine_in(
+        table,
         start,
         schedule,
         related,
         representatives,
         &mut viewed[..size],
+        &mut blocks[..size],
     )
 }
 
@@ -154,35 +93,8 @@ fn refine_encoding(
     ensures { λ r. ⌜ refined (ltsOf (now (s .entry))) (relationOf (h .states) (now (start .entry))) (now (schedule .entry))
         ≡ record { reply = coarsestReply (Done r); grid = now (grid .exit); representatives = now (representatives .exit) } ⌝ }
 {
-    let mut marks = [0u8; 256];
-    let mut offsets = [0u16; 257];
-    let mut sources = [0u16; 1024];
-    let mut actions = [0u8; 1024];
-    let mut targets = [0u16; 1024];
-    encoding::load(
-        s,
-        h,
-        &mut marks,
-        &mut offsets,
-        &mut sources,
-        &mut actions,
-        &mut targets,
-    );
-    let n = h.states;
-    let m = h.actions;
-    let k = h.transitions;
-    refine_table(
-        n,
-        m,
-        k,
-        &sources,
-        &actions,
-        &targets,
-        start,
-        schedule,
-        grid,
-        representatives,
-    )
+    let table = transitions::load(s, h);
+    refine_table(&table, start, schedule, grid, representatives)
 }
 
 // Coarsest: writes the coarsest simulation inside the start, and each state's representative.
@@ -203,8 +115,7 @@ pub fn coarsest(
         encoding::Reading::Refused(r) => Answer::Refused(r),
         encoding::Reading::Readable(h) => {
             let n = h.states;
-            let w = (n + 63) / 64;
-            if (grid.len() != n * w) | (representatives.len() != n) {
+            if (grid.len() != relation::matrix_words(n)) | (representatives.len() != n) {
                 return Answer::Refused(lts::Refusal::Buffer);
             }
             Answer::Done(refine_encoding(s, h, start, schedule, grid, representatives))

@@ -21,9 +21,10 @@ use Rattle.lts.proofs.Rule.{kept, both-kept, finding, refuses, passes, when-bro
 use Rattle.encoding.specs.Records.{headerOf}
 use Rattle.encoding.specs.Checked.{Bounds}
 use Rattle.encoding.specs.Denotation.{ltsOf}
-use Rattle.relation.specs.Matrix.{rowWords, relationOf}
+use Rattle.rows.specs.Rows.{rowWords}
+use Rattle.relation.specs.Matrix.{relationOf}
 use Rattle.relation.proofs.Matrices.{matrix-small, length-matrixOf}
-use Rattle.relation.proofs.Bounded.{length-listBelow}
+use Rattle.lts.proofs.Below.{length-listBelow}
 use Rattle.inputs.specs.Inputs.{inputRules}
 use Rattle.inputs.proofs.Laws.{kept-ready}
 use Rattle.carry.specs.Carried.{stored}

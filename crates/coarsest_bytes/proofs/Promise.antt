@@ -13,7 +13,7 @@ use Rattle.encoding.specs.Records.{headerOf}
 use Rattle.encoding.specs.Denotation.{ltsOf}
 use Rattle.relation.specs.Matrix.{relationOf, matrixOf}
 use Rattle.relation.proofs.Matrices.{matrix-small, length-matrixOf, words-matrix}
-use Rattle.relation.proofs.Bounded.{length-listBelow, getD-listBelow, lowest-le}
+use Rattle.lts.proofs.Below.{length-listBelow, getD-listBelow, lowest-le}
 use Rattle.carry.specs.Carried.{listOf, bytesOf}
 use Rattle.carry.specs.Bytes.{wordsOf, stateNumbers}
 use Rattle.carry.proofs.RoundTrip.{Below}

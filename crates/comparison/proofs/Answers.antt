@@ -18,7 +18,7 @@ use Rattle.encoding.specs.Denotation.{ltsOf}
 use Rattle.encoding.proofs.Reader.{sheet-broken, sheet-kept}
 use Rattle.comparison.specs.declared.Compared.{Compared}
 use Rattle.comparison.specs.declared.Compared.the-variants.{Refused}
-use Rattle.comparison.specs.Join.{runReply, pairReply}
+use Rattle.comparison.specs.Run.{runReply, pairReply}
 use Rattle.comparison.specs.Call.{compareReply, fits, compareRules, compareCall, ComparePromise}
 use Rattle.comparison.proofs.Promise.{promised}
 

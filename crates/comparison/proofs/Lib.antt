@@ -1,5 +1,3 @@
-pub mod Append
-pub mod Join
 pub mod Runs
 pub mod Promise
 pub mod Answers

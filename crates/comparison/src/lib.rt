@@ -3,18 +3,21 @@
 ghost use mathlib.Core.Path.{_≡_};
 ghost use mathlib.Core.Bool.{cond};
 ghost use mathlib.Core.List.{[], _∷_, _++_};
-ghost use Prim.Native.Nat.{ℕ, _+_, _*_, _<_, _≤_, max};
-ghost use lib.ListN.{length, getD};
-ghost use Rattle.lts.specs.Table.{Table};
+ghost use Prim.Native.Nat.{_+_, _*_, _<_, _≤_};
+ghost use lib.ListN.{length};
+ghost use Rattle.lts.specs.Refinement.{coarsest};
 ghost use Rattle.lts.specs.Union.{disjointUnion};
 ghost use Rattle.lts.specs.declared.Refusal.the-variants.{TooLarge};
 ghost use Rattle.lts.specs.Rule.{_otherwise_, checked, refused, given};
+ghost use Rattle.rows.specs.Rows.{rowWords};
 ghost use Rattle.encoding.specs.Records.{headerOf};
 ghost use Rattle.encoding.specs.Checked.{ReadableAs};
 ghost use Rattle.encoding.specs.Encoding.{sheetRules};
 ghost use Rattle.encoding.specs.Denotation.{ltsOf};
-ghost use Rattle.relation.specs.Matrix.{rowWords};
-ghost use Rattle.comparison.specs.Join.{Appended, markedLts, Held, Joined, pairReply};
+ghost use Rattle.transitions.specs.Table.{statesOf, tableLts, Formed};
+ghost use Rattle.relation.specs.Matrix.{relationOf};
+ghost use Rattle.refinement.specs.Engine.{Start};
+ghost use Rattle.comparison.specs.Run.{runReply, pairReply};
 ghost use Rattle.comparison.specs.Call.{compareReply, fits, compareCall, ComparePromise};
 
 // What compare answers: yes or no, with the steps made.
@@ -22,82 +25,6 @@ pub enum Compared {
     Yes(usize),
     No(usize),
     Refused(lts::Refusal),
-}
-
-// Writes the first `count` bytes of `from` into `column`, from `at` on.
-fn append_bytes(column: &mut [u8], at: usize, from: &[u8], count: usize)
-    requires { ⌜ (count ≤ length (now from)) × (at + count ≤ length (now column)) ⌝ }
-    ensures { λ _. ⌜ Appended 0 (now (from .entry)) count at (now (column .entry)) (now (column .exit)) ⌝ }
-{
-    let mut i = 0;
-    while i < count {
-        column[at + i] = from[i];
-        i += 1;
-    }
-}
-
-// Writes the first `count` states of `from` into `column`, from `at` on, each raised by n.
-fn append_states(column: &mut [u16], at: usize, from: &[u16], count: usize, n: usize)
-    requires { ⌜ (count ≤ length (now from)) × (at + count ≤ length (now column)) × (n ≤ 256) ⌝ }
-    requires { ⌜ ((i : ℕ) → i < count → getD (now from) i 0 < 256) ⌝ }
-    ensures { λ _. ⌜ Appended n (now (from .entry)) count at (now (column .entry)) (now (column .exit)) ⌝ }
-{
-    let shift = n as u16;
-    let mut i = 0;
-    while i < count {
-        column[at + i] = from[i] + shift;
-        i += 1;
-    }
-}
-
-// Appends the system of a readable encoding to a table of n states, m actions and k transitions.
-fn append_system(
-    s: &[u8],
-    h: encoding::Header,
-    n: usize,
-    m: usize,
-    k: usize,
-    marks: &mut [u8],
-    sources: &mut [u16],
-    actions: &mut [u8],
-    targets: &mut [u16],
-)
-    requires { ⌜ ReadableAs (now s) h × Held n m k (now marks) (now sources) (now actions) (now targets) ⌝ }
-    requires { ⌜ (n + h .states ≤ 256) × (k + h .transitions ≤ 1024) ⌝ }
-    ensures { λ _. ⌜ Joined (markedLts n m k (now (marks .entry)) (now (sources .entry)) (now (actions .entry)) (now (targets .entry)))
-        (ltsOf (now (s .entry))) (n + h .states) (max m (h .actions)) (k + h .transitions)
-        (now (marks .exit)) (now (sources .exit)) (now (actions .exit)) (now (targets .exit)) ⌝ }
-{
-    let mut own_marks = [0u8; 256];
-    let mut offsets = [0u16; 257];
-    let mut own_sources = [0u16; 1024];
-    let mut own_actions = [0u8; 1024];
-    let mut own_targets = [0u16; 1024];
-    encoding::load(
-        s,
-        h,
-        &mut own_marks,
-        &mut offsets,
-        &mut own_sources,
-        &mut own_actions,
-        &mut own_targets,
-    );
-    let states = h.states;
-    let count = h.transitions;
-    append_bytes(marks, n, &own_marks, states);
-    append_states(sources, k, &own_sources, count, n);
-    append_bytes(actions, k, &own_actions, count);
-    append_states(targets, k, &own_targets, count, n);
-}
-
-// The larger of two numbers.
-fn larger(a: usize, b: usize) -> usize
-    ensures { λ r. ⌜ r ≡ max a b ⌝ }
-{
-    if a < b {
-        return b;
-    }
-    a
 }
 
 // Yes or no, with the steps.
@@ -110,82 +37,63 @@ fn verdict(related: bool, steps: usize) -> Compared
     Compared::No(steps)
 }
 
-// Whether the run on a table from the termination preorder of the marked states keeps the pair (0, q), and its steps. The four matrices are
-// the caller's.
+// Whether the run on a table from a start, with an empty schedule, keeps the pair (0, q), and its steps. The three matrices are the caller's.
 fn compare_in(
-    n: usize,
-    m: usize,
-    k: usize,
-    marks: &[u8; 256],
-    sources: &[u16; 1024],
-    actions: &[u8; 1024],
-    targets: &[u16; 1024],
+    table: &transitions::Table,
+    start: &[u64],
     q: usize,
-    start: &mut [u64],
     related: &mut [u64],
     viewed: &mut [u64],
     blocks: &mut [u64],
 ) -> Compared
-    requires { ⌜ Table n m k (now sources) (now actions) (now targets) × (q < n) ⌝ }
-    requires { ⌜ (length (now start) ≡ n * rowWords n) × (length (now related) ≡ n * rowWords n) ⌝ }
-    requires { ⌜ (length (now viewed) ≡ n * rowWords n) × (length (now blocks) ≡ n * rowWords n) ⌝ }
-    ensures { λ r. ⌜ pairReply (markedLts n m k (now (marks .entry)) (now (sources .entry)) (now (actions .entry)) (now (targets .entry))) q
-        ≡ compareReply r ⌝ }
+    requires { ⌜ (let n = statesOf (now table) in Formed (now table) × Start n (now start) × (q < n) × (length (now related) ≡ n * rowWords n)
+        × (length (now viewed) ≡ n * rowWords n) × (length (now blocks) ≡ n * rowWords n)) ⌝ }
+    ensures { λ r. ⌜ (let n = statesOf (now (table .entry)) in
+        runReply (coarsest (tableLts (now (table .entry))) (relationOf n (now (start .entry))) []) q ≡ compareReply r) ⌝ }
 {
-    relation::write_termination(marks, n, start);
     let schedule: [u16; 0] = [];
-    let steps = refinement::refine_all(
-        n,
-        m,
-        k,
-        sources,
-        actions,
-        targets,
-        start,
-        &schedule,
-        related,
-        viewed,
-        blocks,
-    );
-    let w = (n + 63) / 64;
-    verdict(relation::has(related, w, 0, q), steps)
+    let steps = refinement::refine_all(table, start, &schedule, related, viewed, blocks);
+    let n = transitions::states(table);
+    verdict(relation::relates(related, n, 0, q), steps)
 }
 
-// The same on a table alone.
-fn compare_table(
-    n: usize,
-    m: usize,
-    k: usize,
-    marks: &[u8; 256],
-    sources: &[u16; 1024],
-    actions: &[u8; 1024],
-    targets: &[u16; 1024],
-    q: usize,
-) -> Compared
-    requires { ⌜ Table n m k (now sources) (now actions) (now targets) × (q < n) ⌝ }
-    ensures { λ r. ⌜ pairReply (markedLts n m k (now (marks .entry)) (now (sources .entry)) (now (actions .entry)) (now (targets .entry))) q
-        ≡ compareReply r ⌝ }
+// The same with matrices of its own.
+fn compare_from(table: &transitions::Table, start: &[u64], q: usize) -> Compared
+    requires { ⌜ Formed (now table) × Start (statesOf (now table)) (now start) × (q < statesOf (now table)) ⌝ }
+    ensures { λ r. ⌜ (let n = statesOf (now (table .entry)) in
+        runReply (coarsest (tableLts (now (table .entry))) (relationOf n (now (start .entry))) []) q ≡ compareReply r) ⌝ }
 {
-    let mut start = [0u64; 1024];
     let mut related = [0u64; 1024];
     let mut viewed = [0u64; 1024];
     let mut blocks = [0u64; 1024];
-    let w = (n + 63) / 64;
-    let size = n * w;
+    let size = relation::matrix_words(transitions::states(table));
     compare_in(
-        n,
-        m,
-        k,
-        marks,
-        sources,
-        actions,
-        targets,
+        table,
+        start,
         q,
-        &mut start[..size],
         &mut related[..size],
         &mut viewed[..size],
         &mut blocks[..size],
     )
+}
+
+// The same from the termination preorder (end start), which is written into the caller's matrix.
+fn compare_ended(table: &transitions::Table, q: usize, start: &mut [u64]) -> Compared
+    requires { ⌜ (let n = statesOf (now table) in Formed (now table) × (q < n) × (length (now start) ≡ n * rowWords n)) ⌝ }
+    ensures { λ r. ⌜ pairReply (tableLts (now (table .entry))) q ≡ compareReply r ⌝ }
+{
+    simulation::write_preorder(table, start);
+    compare_from(table, start, q)
+}
+
+// The same with a matrix of its own.
+fn compare_table(table: &transitions::Table, q: usize) -> Compared
+    requires { ⌜ Formed (now table) × (q < statesOf (now table)) ⌝ }
+    ensures { λ r. ⌜ pairReply (tableLts (now (table .entry))) q ≡ compareReply r ⌝ }
+{
+    let mut start = [0u64; 1024];
+    let size = relation::matrix_words(transitions::states(table));
+    compare_ended(table, q, &mut start[..size])
 }
 
 // Compares two readable encodings whose disjoint union is within the limits.
@@ -194,46 +102,8 @@ fn compare_joined(first: &[u8], h: encoding::Header, second: &[u8], g: encoding:
     requires { ⌜ (h .states + g .states ≤ 256) × (h .transitions + g .transitions ≤ 1024) ⌝ }
     ensures { λ r. ⌜ pairReply (disjointUnion (ltsOf (now (first .entry))) (ltsOf (now (second .entry)))) (h .states) ≡ compareReply r ⌝ }
 {
-    let mut marks = [0u8; 256];
-    let mut offsets = [0u16; 257];
-    let mut sources = [0u16; 1024];
-    let mut actions = [0u8; 1024];
-    let mut targets = [0u16; 1024];
-    encoding::load(
-        first,
-        h,
-        &mut marks,
-        &mut offsets,
-        &mut sources,
-        &mut actions,
-        &mut targets,
-    );
-    let n = h.states;
-    let m = h.actions;
-    let k = h.transitions;
-    append_system(
-        second,
-        g,
-        n,
-        m,
-        k,
-        &mut marks,
-        &mut sources,
-        &mut actions,
-        &mut targets,
-    );
-    let states = n + g.states;
-    let size = k + g.transitions;
-    compare_table(
-        states,
-        larger(m, g.actions),
-        size,
-        &marks,
-        &sources,
-        &actions,
-        &targets,
-        n,
-    )
+    let table = transitions::load_both(first, h, second, g);
+    compare_table(&table, h.states)
 }
 
 // Compares two readable encodings.

@@ -1,4 +1,4 @@
--- Laws of chains, of marks that are set along them, and of sets of what is on them.
+-- Laws of chains, and of marks that are set along them.
 use Prim.Native.Nat.{ℕ, zero, suc, _+_, _*_, _-_, _≤_, _<_}
 use mathlib.Core.Path.{_≡_, refl, sym, ap, _∙_}
 use mathlib.Core.Bool.{Bool, true, false, not, _&&_, _||_, false≢true, and-eq-true-iff, and-true, and-assoc, or-false}
@@ -10,33 +10,30 @@ use borrow.Author.Tests.{eq-eqb, ne-eqb, leb-true, ltb-true, not-true, not-false
 use lib.ListN.{length, getD, set, length-set, replicate, length-replicate}
 use lib.Seq.{getD-set-same, getD-set-other}
 use lib.Dec.{eqb}
-use lib.Pow.{pow-pos}
 use native.Mathlib.Decide.{ℕ-discrete}
 use mathlib.Core.Logic.{_⊎_, ⊎-elim}
 use Rattle.encoding.specs.declared.Header.{Header}
 use Rattle.lts.specs.Bounded.{allBelow, concatBelow}
-use Rattle.relation.specs.Matrix.{inRow, rowOf}
-use Rattle.relation.proofs.Bounded.{length-listBelow}
-use Rattle.relation.proofs.Rows.{inRow-of, inRow-zeros, rowOf-cong, row-ext}
+use Rattle.lts.proofs.Below.{regroup, eqb-sym, all-at, all-cong}
 use Rattle.encoding.specs.Encoding.{stateFits, transitionFits, statesFit, transitionsFit, walk, chain, reached, successor, chainsFit, member, distinct}
 use Rattle.encoding.specs.Records.{stateRecord, transitionRecord}
 use Rattle.encoding.specs.Checked.{Recorded, FirstKnown, TransitionKnown}
 use Rattle.encoding.specs.Marks.{fresh, marked}
-use Rattle.encoding.proofs.Bounded.{split, all-at, all-same, Every, every-map, concat-keeps}
+use Rattle.lts.proofs.Lists.{split, Every, every-map, concat-keeps}
 
 -- ## The records of an encoding that passed rules 1 to 4
 module _ (s : List ℕ) (h : Header) (g : Recorded s h) where
   pub first-known : (p : ℕ) → p < h .states → FirstKnown s h p (stateRecord s h p .first)
   unfolding statesFit stateFits
   first-known p l =
-      let e = simp and-eq-true-iff at (all-at _ (h .states) p (g .states) l) in
+      let e = simp and-eq-true-iff at (all-at (h .states) _ (g .states) p l) in
       record { is = refl; bound = omega (arith, leb-true) }
 
   pub transition-known : (j : ℕ) → 1 ≤ j → j ≤ h .transitions → TransitionKnown s h j (transitionRecord s h j)
   unfolding transitionsFit transitionFits
   transition-known j l u =
       let at-j : j - 1 + 1 ≡ j = omega arith in
-      let e = simp (at-j, and-eq-true-iff) at (all-at _ (h .transitions) (j - 1) (g .transitions) (omega arith)) in
+      let e = simp (at-j, and-eq-true-iff) at (all-at (h .transitions) _ (g .transitions) (j - 1) (omega arith)) in
       record {
         is = refl;
         named = omega (arith, leb-true);
@@ -145,22 +142,9 @@ module _ (s : List ℕ) (h : Header) (m₀ : List ℕ) where
       → (true ≡ fresh 1 m₀ (reached s h n)) × (true ≡ true → m ≡ marked 1 m₀ (reached s h n))
   reach-done n p l g r = let e : n ≡ p = omega arith in (rw (e, r .tests), λ _. rw e (r .marks))
 
-regroup : (a b c : Bool) → (b || (a || c)) ≡ ((a || b) || c)
-regroup true true c = refl
-regroup true false c = refl
-regroup false true c = refl
-regroup false false c = refl
-
 -- ## Marks from a clean array: no number twice
 abbrev pub Below : ℕ → List ℕ → Type 0
 Below b l = Every (λ x. x < b) l
-
-eqb-sym : (x y : ℕ) → eqb x y ≡ eqb y x
-eqb-sym x y = go (ℕ-discrete x y)
-  where
-    go : Dec (x ≡ y) → eqb x y ≡ eqb y x
-    go (yes e) = eq-eqb x y e ∙ sym (eq-eqb y x (sym e))
-    go (no n) = ne-eqb x y n ∙ sym (ne-eqb y x (λ e. n (sym e)))
 
 module _ (v : ℕ) where
   -- whether a place bears the mark after x was marked
@@ -283,7 +267,7 @@ module _ (s : List ℕ) (h : Header) (g : Recorded s h) (m : List ℕ) (long : l
   unfolding chainsFit
   chains-done {a} {b} e t k f =
       let y = not-false b t in
-      rw (← chains-test, ← e, y, f, k y) (all-same (h .transitions) _ _ λ i. at i)
+      rw (← chains-test, ← e, y, f, k y) (all-cong (h .transitions) _ _ λ i l. at i)
     where
       at : (i : ℕ) → eqb (getD (marked 1 m (reached s h (h .states))) (i + 1) 0) 1 ≡ member (i + 1) (reached s h (h .states))
       at i = rw (marked-at 1 m _ (i + 1) inside, zeros (i + 1), or-false)
@@ -302,37 +286,3 @@ module _ (s : List ℕ) (h : Header) (g : Recorded s h) (p : ℕ) (l : p < h .st
         rw (e, marked-length) long,
         λ i. rw e (marked-bound (p + 1) m _ stamp-inside (λ y. let z = old y in omega (arith, z)) i),
       )
-
--- ## A set along a list: what is left to be put into the row's k words
-pub record Gathering (k : ℕ) (l₀ row l : List ℕ) : Type 0 where
-  pub words : row ≡ rowOf k (inRow row)
-  pub rest : (x : ℕ) → x < k * 64 → member x l₀ ≡ (member x l || inRow row x)
-
-pub gathering-start : (k : ℕ) (l : List ℕ) → Gathering k l (replicate k 0) l
-gathering-start k l =
-    record {
-      words = row-ext k _ (replicate k 0) (zeros-long k) (λ j. rw (zeros-at k j) (pow-pos 64)) (λ x u. refl);
-      rest = λ x u. rw (inRow-zeros k x, or-false);
-    }
-
-module _ {k : ℕ} {l₀ row l : List ℕ} (g : Gathering k l₀ row l) where
-  pub gathering-long : length row ≡ k
-  gathering-long = ap length (g .words) ∙ length-listBelow k _
-
-  pub gathering-more : {row′ : List ℕ} (y : ℕ) (m : List ℕ) → l ≡ y ∷ m → row′ ≡ rowOf (length row) (λ x. eqb x y || inRow row x) → Gathering k l₀ row′ m
-  unfolding member
-  gathering-more {row′} y m e r =
-      record {
-        words = is ∙ rowOf-cong k _ _ (λ x u. sym (at x u));
-        rest = λ x u. g .rest x u ∙ ap (λ z. member x z || inRow row x) e ∙ sym (regroup (eqb x y) (member x m) (inRow row x)) ∙ ap (λ b. member x m || b) (sym (at x u));
-      }
-    where
-      is : row′ ≡ rowOf k (λ x. eqb x y || inRow row x)
-      is = r ∙ ap (λ z. rowOf z (λ x. eqb x y || inRow row x)) gathering-long
-
-      at : (x : ℕ) → x < k * 64 → inRow row′ x ≡ (eqb x y || inRow row x)
-      at x u = ap (λ z. inRow z x) is ∙ inRow-of k _ x u
-
-  pub gathering-end : l ≡ [] → row ≡ rowOf k (λ x. member x l₀)
-  unfolding member
-  gathering-end e = g .words ∙ rowOf-cong k _ _ (λ x u. sym (g .rest x u ∙ ap (λ z. member x z || inRow row x) e))

@@ -15,12 +15,12 @@ use Rattle.encoding.specs.Encoding.{chain, reached, member, distinct, su
 use Rattle.encoding.specs.Checked.{ReadableAs, TransitionKnown}
 use Rattle.encoding.specs.Denotation.{ltsOf}
 use Rattle.lts.specs.Bounded.{passing, concatBelow}
-use Rattle.encoding.specs.Normal.{transitionsBy, transitionsOf, transitionsBelow}
+use Rattle.lts.specs.Transitions.{transitionsBy, transitionsOf, transitionsBelow}
 use Rattle.lts.proofs.Count.{passing-shorter}
-use Rattle.encoding.proofs.Bounded.{all-at, Every, every-map, passing-zero, passing-all, passing-add, passing-or, passing-same}
-use Rattle.encoding.proofs.Writes.{to-length}
+use Rattle.lts.proofs.Below.{all-at}
+use Rattle.lts.proofs.Lists.{Every, every-map, passing-zero, passing-all, passing-add, passing-or, passing-same}
+use Rattle.lts.proofs.Transitions.{to-length, by-none, by-more, by-all}
 use Rattle.encoding.proofs.Denotation.{lts-states, lts-actions, transition-member}
-use Rattle.encoding.proofs.Order.{by-none, by-more, by-all}
 
 -- ## A list with no number twice has as many members as its length
 distinct-count : (b : ℕ) (l : List ℕ) → distinct l ≡ true → Below b l → length (passing b (λ x. member x l)) ≡ length l
@@ -94,7 +94,7 @@ module _ (s : List ℕ) (h : Header) (g : ReadableAs s h) where
         let cut =
         ap length (passing-shorter (256 * (h .actions + 1)) 16640 is-successor (omega arith)
         (λ x u v. no-successor x (λ q. let z = q .high in omega (arith, z)))) in
-        let d = all-at _ (h .states) p (g .successors) l in
+        let d = all-at (h .states) _ (g .successors) p l in
         let k = successors-below s h (g .recorded) p l in
         let whole = by-all (ltsOf s) p (h .actions) (sym (lts-actions s h (g .header))) in
         rw (← whole, by-successors (h .actions) (le-refl _), ← cut)
@@ -118,6 +118,6 @@ module _ (s : List ℕ) (h : Header) (g : ReadableAs s h) where
       let out = member-keeps (λ x. (1 ≤ x) × (x ≤ h .transitions)) in
       let cut = ap length (passing-shorter (1 + h .transitions) 1025 f (omega arith) (λ x u v. out x r known (λ q. let z = q .1 in omega (arith, z)))) in
       let zero-out = passing-zero 1 f (λ x u. out x r known (λ q. let z = q .0 in omega (arith, z))) in
-      let full = passing-all (h .transitions) (λ t. f (1 + t)) (λ i u. rw (add-comm 1 i) (all-at _ (h .transitions) i (on .1) u)) in
+      let full = passing-all (h .transitions) (λ t. f (1 + t)) (λ i u. rw (add-comm 1 i) (all-at (h .transitions) _ (on .1) i u)) in
       let sum = passing-add 1 (h .transitions) f in
       reached-count (h .states) (le-refl _) ∙ sym d ∙ cut ∙ sum ∙ rw (zero-out, full) (omega arith)

@@ -13,7 +13,8 @@ use Rattle.encoding.specs.Records.{headerOf, stateRecord, transitionReco
 use Rattle.encoding.specs.Encoding.{stateFits, statesFit, chain, member, successor}
 use Rattle.encoding.specs.Checked.{ReadableAs}
 use Rattle.encoding.specs.Denotation.{any, ltsOf}
-use Rattle.encoding.proofs.Bounded.{all-at, Every}
+use Rattle.lts.proofs.Below.{all-at}
+use Rattle.lts.proofs.Lists.{Every}
 use Rattle.encoding.proofs.Chains.{transition-known, chain-all}
 
 -- ## An action and a target as one number
@@ -64,7 +65,7 @@ module _ (s : List ℕ) (h : Header) (g : ReadableAs s h) where
   pub mark-byte : (p : ℕ) → p < h .states → stateRecord s h p .mark ≡ cond (ltsOf s .terminating p) 1 0
   unfolding statesFit stateFits
   mark-byte p l =
-      let q = simp and-eq-true-iff at (all-at _ (h .states) p (g .recorded .states) l) in
+      let q = simp and-eq-true-iff at (all-at (h .states) _ (g .recorded .states) p l) in
       rw (lts-terminating s h (g .header) p, lt-ltb p (h .states) l) (go (stateRecord s h p .mark) (omega (arith, leb-true)))
     where
       go : (e : ℕ) → e ≤ 1 → e ≡ cond (eqb e 1) 1 0

@@ -6,13 +6,19 @@ use Rattle.lts.proofs.Rule.{when-broken, when-kept}
 use Rattle.encoding.specs.declared.Header.{Header}
 use Rattle.encoding.specs.declared.Reading.{Reading}
 use Rattle.encoding.specs.declared.Reading.the-variants.{Readable, Refused}
+use Rattle.lts.specs.Transitions.{transitions, transitionsBelow}
 use Rattle.encoding.specs.Records.{headerOf}
+use Rattle.encoding.specs.Checked.{ReadableAs}
+use Rattle.encoding.specs.Denotation.{ltsOf}
 use Rattle.encoding.specs.Encoding.{sheetRules, readEncoding}
 use Rattle.encoding.specs.Read.{readingReply, Denoted, ReadPromise}
 use Rattle.encoding.proofs.Reader.{sheet-passed, readable-of}
 use Rattle.encoding.proofs.Denotation.{lts-states, lts-actions, well-formed}
 use Rattle.encoding.proofs.Counting.{all-count}
-use Rattle.encoding.proofs.Table.{all-is}
+
+all-is : (s : List ℕ) (h : Header) → ReadableAs s h → transitions (ltsOf s) ≡ transitionsBelow (ltsOf s) (h .states)
+unfolding transitions
+all-is s h g = rw (lts-states s h (g .header))
 
 pub denoted : (s : List ℕ) (h : Header) → readEncoding s ≡ Readable h → Denoted s h
 denoted s h e =

@@ -1,12 +1,6 @@
-pub mod Bounded
 pub mod Reader
 pub mod Chains
 pub mod Denotation
-pub mod Order
-pub mod Codes
-pub mod Writes
-pub mod Filling
 pub mod Counting
-pub mod Table
 pub mod Laws
 pub mod Sheets

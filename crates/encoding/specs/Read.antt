@@ -12,7 +12,7 @@ use Rattle.encoding.specs.declared.Reading.the-variants.{Readable, Refus
 use Rattle.encoding.specs.Records.{headerOf}
 use Rattle.encoding.specs.Encoding.{sheetRules}
 use Rattle.encoding.specs.Denotation.{ltsOf}
-use Rattle.encoding.specs.Normal.{transitions}
+use Rattle.lts.specs.Transitions.{transitions}
 use Rattle.encoding.specs.Checked.{Bounds}
 
 -- the header's counts n, m and k

@@ -1,4 +1,4 @@
-// Encodings of labelled transition systems (document 01, "The sheet"): the records, the reader, and the loader that fills a transition table.
+// Encodings of labelled transition systems (document 01, "The sheet"): the records and the reader.
 ghost use Prim.Native.Nat.{_+_, _*_, _-_, _<_, _≤_};
 ghost use mathlib.Core.Path.{_≡_};
 ghost use mathlib.Core.Bool.{true};
@@ -6,19 +6,16 @@ ghost use mathlib.Core.List.{map};
 ghost use lib.Dec.{eqb};
 ghost use lib.ListN.{length, getD};
 ghost use lib.Seq.{sets};
-ghost use Rattle.lts.specs.Bounded.{allBelow, passing};
-ghost use Rattle.relation.specs.Matrix.{rowOf};
+ghost use Rattle.lts.specs.Bounded.{allBelow};
 ghost use Rattle.encoding.specs.Records.{numberAt, two, headerOf, headerBytes, stateRecordAt, stateBytes};
 ghost use Rattle.encoding.specs.Records.{transitionRecordAt, transitionBytes, stateAt, transitionAt, encodingLength};
 ghost use Rattle.encoding.specs.Records.{stateRecord, transitionRecord};
 ghost use Rattle.encoding.specs.Encoding.{inRange, stateFits, transitionFits, statesFit, transitionsFit};
 ghost use Rattle.encoding.specs.Encoding.{chain, reached, successor, chainsFit, successorsFit, readEncoding};
-ghost use Rattle.encoding.specs.Denotation.{ltsOf};
-ghost use Rattle.encoding.specs.Normal.{transitionsTo, transitionsOf, normal};
+ghost use Rattle.lts.specs.Transitions.{transitionsTo, transitionsOf};
 ghost use Rattle.encoding.specs.Read.{readingReply, ReadPromise};
-ghost use Rattle.encoding.specs.Checked.{Bounds, Sized, Recorded, FirstKnown, TransitionKnown, ReadableAs};
-ghost use Rattle.encoding.specs.Marks.{fresh, marked, successorSet, held};
-ghost use Rattle.encoding.specs.Loaded.{Buffers, Loaded, Wrote};
+ghost use Rattle.encoding.specs.Checked.{Bounds, Sized, Recorded, FirstKnown, TransitionKnown};
+ghost use Rattle.encoding.specs.Marks.{fresh, marked};
 
 pub struct Header {
     pub states: usize,
@@ -209,7 +206,7 @@ impl TransitionRecord {
 }
 
 // The record of state p.
-fn state_record(s: &[u8], h: Header, p: usize) -> StateRecord
+pub fn state_record(s: &[u8], h: Header, p: usize) -> StateRecord
     requires { ⌜ (Sized (now s) h) × (p < h .states) ⌝ }
     ensures { λ r. ⌜ r ≡ stateRecord (now (s .entry)) h p ⌝ }
 {
@@ -273,7 +270,7 @@ fn transitions_fit(s: &[u8], h: Header) -> bool
 }
 
 // State p's first index, after rule 3.
-fn first_of(s: &[u8], h: Header, p: usize) -> usize
+pub fn first_of(s: &[u8], h: Header, p: usize) -> usize
     requires { ⌜ (Recorded (now s) h) × (p < h .states) ⌝ }
     ensures { λ r. ⌜ FirstKnown (now (s .entry)) h p r ⌝ }
 {
@@ -281,7 +278,7 @@ fn first_of(s: &[u8], h: Header, p: usize) -> usize
 }
 
 // Transition record j, after rule 4.
-fn known_transition(s: &[u8], h: Header, j: usize) -> TransitionRecord
+pub fn known_transition(s: &[u8], h: Header, j: usize) -> TransitionRecord
     requires { ⌜ (Recorded (now s) h) × (1 ≤ j) × (j ≤ h .transitions) ⌝ }
     ensures { λ r. ⌜ TransitionKnown (now (s .entry)) h j r ⌝ }
 {
@@ -360,7 +357,8 @@ fn chains_fit(s: &[u8], h: Header) -> bool
 fn stamp_chain(s: &[u8], h: Header, p: usize, stamps: &mut [u16; 16640]) -> bool
     requires { ⌜ (Recorded (now s) h) × (p < h .states) ⌝ }
     ensures { λ r. ⌜ r ≡ fresh (p + 1) (now (stamps .entry)) (map (successor (now (s .entry)) h) (chain (now (s .entry)) h p)) ⌝ }
-    ensures { λ r. ⌜ (r ≡ true → now (stamps .exit) ≡ marked (p + 1) (now (stamps .entry)) (map (successor (now (s .entry)) h) (chain (now (s .entry)) h p))) ⌝ }
+    ensures { λ r. ⌜ (let l = map (successor (now (s .entry)) h) (chain (now (s .entry)) h p) in
+        r ≡ true → now (stamps .exit) ≡ marked (p + 1) (now (stamps .entry)) l) ⌝ }
 {
     let stamp = (p + 1) as u16;
     let mut j = first_of(s, h, p);
@@ -426,106 +424,4 @@ pub fn read_encoding(s: &[u8]) -> Reading
         return Reading::Refused(lts::Refusal::Repeated);
     }
     Reading::Readable(h)
-}
-
-// The actions and targets of state p's chain, as the members 256 * a + t.
-fn successor_set(s: &[u8], h: Header, p: usize) -> [u64; 260]
-    requires { ⌜ (Recorded (now s) h) × (p < h .states) ⌝ }
-    ensures { λ r. ⌜ r ≡ rowOf 260 (successorSet (now (s .entry)) h p) ⌝ }
-{
-    let mut set = [0u64; 260];
-    let mut j = first_of(s, h, p);
-    let mut left = h.transitions + 1;
-    while left > 0 {
-        if j == 0 {
-            return set;
-        }
-        let r = known_transition(s, h, j);
-        relation::insert(&mut set, 256 * (r.action as usize) + r.target);
-        j = r.next;
-        left -= 1;
-    }
-    set
-}
-
-// Writes the transitions of state p by action a, which the set holds, from `from` on; the place after them.
-fn load_action(
-    p: usize,
-    a: usize,
-    n: usize,
-    set: &[u64; 260],
-    from: usize,
-    sources: &mut [u16; 1024],
-    actions: &mut [u8; 1024],
-    targets: &mut [u16; 1024],
-) -> usize
-    requires { ⌜ (p < 256) × (a ≤ 64) × (n ≤ 256) ⌝ }
-    requires { ⌜ from + length (passing n (held (now set) a)) ≤ 1024 ⌝ }
-    ensures { λ r. ⌜ r ≡ from + length (passing n (held (now (set .entry)) a)) ⌝ }
-    ensures { λ r. ⌜ Wrote (transitionsTo p a (passing n (held (now (set .entry)) a))) from (now (sources .entry)) (now (actions .entry)) (now (targets .entry)) (now (sources .exit)) (now (actions .exit)) (now (targets .exit)) ⌝ }
-{
-    let row = relation::action_part(set, a);
-    let mut at = from;
-    let mut t = relation::next_state(row, 4, 0);
-    while t < n {
-        sources[at] = p as u16;
-        actions[at] = a as u8;
-        targets[at] = t as u16;
-        at += 1;
-        t = relation::next_state(row, 4, t + 1);
-    }
-    at
-}
-
-// Writes the transitions of state p in normal order, from `from` on; the place after them.
-fn load_state(
-    s: &[u8],
-    h: Header,
-    p: usize,
-    from: usize,
-    sources: &mut [u16; 1024],
-    actions: &mut [u8; 1024],
-    targets: &mut [u16; 1024],
-) -> usize
-    requires { ⌜ (ReadableAs (now s) h) × (p < h .states) ⌝ }
-    requires { ⌜ from + length (transitionsOf (ltsOf (now s)) p) ≤ 1024 ⌝ }
-    ensures { λ r. ⌜ r ≡ from + length (transitionsOf (ltsOf (now (s .entry))) p) ⌝ }
-    ensures { λ r. ⌜ Wrote (transitionsOf (ltsOf (now (s .entry))) p) from (now (sources .entry)) (now (actions .entry)) (now (targets .entry)) (now (sources .exit)) (now (actions .exit)) (now (targets .exit)) ⌝ }
-{
-    let set = successor_set(s, h, p);
-    let n = h.states;
-    let m = h.actions;
-    let mut at = from;
-    let mut a = 0;
-    while a < m {
-        at = load_action(p, a + 1, n, &set, at, sources, actions, targets);
-        a += 1;
-    }
-    at
-}
-
-// Fills the transition table of a readable encoding: the end marks, the row offsets, and the transitions in normal order. What it
-// requires follows from the reader's answer (`readable-of`) and of fresh arrays (`fresh-buffers`).
-pub fn load(
-    s: &[u8],
-    h: Header,
-    marks: &mut [u8; 256],
-    offsets: &mut [u16; 257],
-    sources: &mut [u16; 1024],
-    actions: &mut [u8; 1024],
-    targets: &mut [u16; 1024],
-)
-    requires { ⌜ (ReadableAs (now s) h) × (Buffers (now marks) (now offsets) (now sources) (now actions) (now targets)) ⌝ }
-    ensures { λ r. ⌜ Loaded (now (s .entry)) h (now (marks .exit)) (now (offsets .exit)) (now (sources .exit)) (now (actions .exit)) (now (targets .exit)) ⌝ }
-{
-    let n = h.states;
-    let mut at = 0;
-    let mut p = 0;
-    offsets[0] = 0;
-    while p < n {
-        marks[p] = state_record(s, h, p).mark;
-        at = load_state(s, h, p, at, sources, actions, targets);
-        p += 1;
-        offsets[p] = at as u16;
-    }
 }

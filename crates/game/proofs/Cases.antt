@@ -14,7 +14,8 @@ use Rattle.encoding.proofs.Sheets.{F3}
 use Rattle.encoding.specs.Records.{numberAt, headerOf, stateRecordAt, transitionRecordAt, stateRecord, transitionRecord}
 use Rattle.encoding.specs.Encoding.{inRange, stateFits, statesFit, transitionFits, transitionsFit, walk, chain, reached, member, distinct, chainsFit, successor, successorsFit, headedRules, sheetRules}
 use Rattle.encoding.specs.Denotation.{any, ltsOf}
-use Rattle.relation.specs.Matrix.{bit, inMatrix}
+use Rattle.rows.specs.Rows.{bit}
+use Rattle.relation.specs.Matrix.{inMatrix}
 use Rattle.relation.specs.Check.{reflexiveBelow, transitivePair, transitiveAt, transitiveBelow, isMatrix, startRules}
 use Rattle.inputs.specs.Inputs.{inputRules, pairRules}
 use Rattle.game.specs.Play.{playRules, playCall, PlayPromise}

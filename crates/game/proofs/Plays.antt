@@ -1,60 +1,38 @@
 -- The game on a readable encoding is the game on its loaded table, and what hand play answers by what its tests say.
 use Prim.Native.Nat.{ℕ, _<_, _≤_}
-use mathlib.Core.Path.{_≡_, refl, sym, ap, _∙_}
+use mathlib.Core.Path.{_≡_, refl, sym, ap₂, _∙_}
 use mathlib.Core.Bool.{Bool, true, false, cond}
 use mathlib.Core.List.{List, [], _∷_}
-use native.Mathlib.Nat.{le-trans}
-use native.Mathlib.Omega.{arith}
 use lib.Dec.{leb}
 use borrow.Author.Tests.{le-leb, lt-leb}
-use Rattle.lts.specs.System.{Rel, Lts}
-use Rattle.lts.specs.Table.{Table, tableLts, markedSet}
+use Rattle.lts.specs.System.{Lts}
 use Rattle.lts.specs.Game.{challengerWins}
 use Rattle.lts.specs.declared.Refusal.{Refusal}
 use Rattle.lts.specs.declared.Refusal.the-variants.{TooManyRounds}
 use Rattle.lts.specs.Rule.{_otherwise_, First, broken, given}
 use Rattle.lts.proofs.Rule.{stop, pass, done, first-part, second-part, refuses, passes}
-use Rattle.lts.proofs.Table.{wins-terminating}
 use Rattle.encoding.specs.declared.Header.{Header}
 use Rattle.encoding.specs.declared.Reading.the-variants.{Readable, Refused as Unreadable}
 use Rattle.encoding.specs.Denotation.{ltsOf}
-use Rattle.encoding.specs.Loaded.{Loaded}
+use Rattle.encoding.specs.Checked.{ReadableAs}
+use Rattle.transitions.specs.Table.{Holds}
+use Rattle.transitions.proofs.Filled.{sheet-states}
 use Rattle.relation.specs.Matrix.{Matrix, relationOf}
 use Rattle.inputs.specs.Inputs.{readPair, Ready}
 use Rattle.inputs.proofs.Laws.{kept-ready, pair-broken, pair-kept, pair-inputs, pair-states}
 use Rattle.game.specs.declared.Played.{Played}
 use Rattle.game.specs.declared.Played.the-variants.{Won, NotWon, Refused}
-use Rattle.game.specs.Memo.{system, Playable}
+use Rattle.game.specs.Memo.{wins, Playable}
 use Rattle.game.specs.Play.{playReply, playRules, playCall, PlayPromise}
-use Rattle.game.proofs.Entries.{wins-labels}
 use Rattle.game.proofs.Promise.{promised}
 
 -- ## The loaded table
-module _ (s : List ℕ) (h : Header) (marks offsets sources actions targets : List ℕ) (loaded : Loaded s h marks offsets sources actions targets) where
-  table-labels : Table (h .states) 64 (h .transitions) sources actions targets
-  table-labels = let tab = loaded .table in record {
-    some = tab .some;
-    states = tab .states;
-    labels = omega arith;
-    size = tab .size;
-    source = tab .source;
-    named = tab .named;
-    action = λ i l. le-trans (tab .action i l) (tab .labels);
-    target = tab .target;
-  }
+module _ (s : List ℕ) (h : Header) (g : ReadableAs s h) {t : List ℕ} (k : Holds (ltsOf s) t) where
+  pub loaded-playable : (start : List ℕ) → Matrix (h .states) start → Playable t start
+  loaded-playable start m = record { table = k .formed; matrix = rw (sheet-states s h g k) m }
 
-  pub loaded-playable : (start : List ℕ) → Matrix (h .states) start → Playable (h .states) (h .transitions) sources actions targets offsets start
-  loaded-playable start m = record { table = table-labels; rows = loaded .rows; matrix = m }
-
-  pub wins-loaded : (start : Rel) (rounds p q : ℕ)
-      → challengerWins (system (h .states) (h .transitions) sources actions targets) start rounds p q ≡ challengerWins (ltsOf s) start rounds p q
-  wins-loaded start rounds p q =
-      let L = tableLts (h .states) (h .actions) (h .transitions) sources actions targets in
-      ap (λ (W : Rel). W p q)
-      (sym
-      (ap (λ (S : Lts). challengerWins S start rounds) (loaded .same)
-      ∙ wins-terminating (markedSet (h .states) marks) L start rounds
-      ∙ wins-labels (h .states) (h .transitions) sources actions targets (h .actions) 64 (loaded .table) table-labels start rounds))
+  pub wins-loaded : (start : List ℕ) (rounds p q : ℕ) → wins t start rounds p q ≡ challengerWins (ltsOf s) (relationOf (h .states) start) rounds p q
+  wins-loaded start rounds p q = ap₂ (λ (L : Lts) (n : ℕ). challengerWins L (relationOf n start) rounds p q) (k .same) (sheet-states s h g k)
 
 -- ## What hand play answers, by its tests
 -- what `hand_play` says of its answer

@@ -1,27 +1,22 @@
--- What the turns of hand play share: a table of the results already known.
+-- What the turns of hand play share: the results already known, in cells.
 use Prim.Native.Nat.{ℕ, _+_, _*_, _-_, _<_, _≤_}
 use mathlib.Core.Path.{_≡_}
 use mathlib.Core.Bool.{Bool, true, false}
 use mathlib.Core.List.{List}
 use lib.ListN.{length, getD}
-use Rattle.lts.specs.System.{Rel, Lts}
-use Rattle.lts.specs.Table.{Table, Rows, tableLts}
+use Rattle.lts.specs.System.{Rel}
 use Rattle.lts.specs.Game.{challengerWins}
+use Rattle.transitions.specs.Table.{statesOf, tableLts, Formed}
 use Rattle.relation.specs.Matrix.{Matrix, relationOf}
 
--- the system of a table whose actions are all those that document 01 allows
-abbrev pub system : ℕ → ℕ → List ℕ → List ℕ → List ℕ → Lts
-system n size sources actions targets = tableLts n 64 size sources actions targets
-
 -- the challenger wins from a pair, by the number of rounds left
-abbrev pub wins : ℕ → ℕ → List ℕ → List ℕ → List ℕ → List ℕ → ℕ → Rel
-wins n size sources actions targets start = challengerWins (system n size sources actions targets) (relationOf n start)
+abbrev pub wins : List ℕ → List ℕ → ℕ → Rel
+wins t start = challengerWins (tableLts t) (relationOf (statesOf t) start)
 
--- what the loader ensures of a table, and the check of a start of its matrix
-pub record Playable (n size : ℕ) (sources actions targets offsets start : List ℕ) : Type 0 where
-  pub table : Table n 64 size sources actions targets
-  pub rows : Rows n size sources offsets
-  pub matrix : Matrix n start
+-- a transition table, and the matrix of a start on its states
+pub record Playable (t start : List ℕ) : Type 0 where
+  pub table : Formed t
+  pub matrix : Matrix (statesOf t) start
 
 -- what a cell says of a result: 1 that it is no win, 2 that it is one, any other number nothing
 pub record Says (cell : ℕ) (result : Bool) : Type 0 where
@@ -33,6 +28,7 @@ abbrev pub cellOf : ℕ → ℕ → ℕ → ℕ → ℕ
 cellOf n rounds p q = ((rounds - 1) * n + p) * n + q
 
 -- every cell is right
-pub record Right (results : ℕ → Rel) (n : ℕ) (memo : List ℕ) : Type 0 where
-  pub size : length memo ≡ 6 * n * n
-  pub cells : (rounds p q : ℕ) → 0 < rounds → rounds ≤ 6 → p < n → q < n → Says (getD memo (cellOf n rounds p q) 0) (results rounds p q)
+pub record Right (t start memo : List ℕ) : Type 0 where
+  pub size : length memo ≡ 6 * statesOf t * statesOf t
+  pub cells : (rounds p q : ℕ) → 0 < rounds → rounds ≤ 6 → p < statesOf t → q < statesOf t
+      → Says (getD memo (cellOf (statesOf t) rounds p q) 0) (wins t start rounds p q)

@@ -4,8 +4,9 @@ ghost use Prim.Native.Nat.{_<_, _≤_, _-_};
 ghost use Rattle.lts.specs.Game.{challengerWins, defenderLoses};
 ghost use Rattle.encoding.specs.Checked.{ReadableAs};
 ghost use Rattle.encoding.specs.Denotation.{ltsOf};
+ghost use Rattle.transitions.specs.Table.{statesOf, tableLts};
 ghost use Rattle.relation.specs.Matrix.{Matrix, relationOf};
-ghost use Rattle.game.specs.Memo.{system, wins, Playable, Right};
+ghost use Rattle.game.specs.Memo.{wins, Playable, Right};
 ghost use Rattle.game.specs.Play.{playReply, playCall, PlayPromise};
 
 // What hand play answers.
@@ -17,26 +18,20 @@ pub enum Played {
 
 // Whether the challenger wins from the pair (p, q) with `rounds` rounds left. `memo` has the results already known.
 fn challenger(
-    n: usize,
-    size: usize,
-    sources: &[u16; 1024],
-    actions: &[u8; 1024],
-    targets: &[u16; 1024],
-    offsets: &[u16; 257],
+    table: &transitions::Table,
     start: &[u64],
     memo: &mut [u8],
     p: usize,
     q: usize,
     rounds: usize,
 ) -> bool
-    requires { ⌜ Playable n size (now sources) (now actions) (now targets) (now offsets) (now start) ⌝ }
-    requires { ⌜ Right (wins n size (now sources) (now actions) (now targets) (now start)) n (now memo) ⌝ }
-    requires { ⌜ (p < n) × (q < n) × (rounds ≤ 6) ⌝ }
-    ensures { λ r. ⌜ r ≡ wins n size (now (sources .entry)) (now (actions .entry)) (now (targets .entry)) (now (start .entry)) rounds p q ⌝ }
-    ensures { λ _. ⌜ Right (wins n size (now (sources .entry)) (now (actions .entry)) (now (targets .entry)) (now (start .entry))) n (now (memo .exit)) ⌝ }
+    requires { ⌜ Playable (now table) (now start) × Right (now table) (now start) (now memo) ⌝ }
+    requires { ⌜ (p < statesOf (now table)) × (q < statesOf (now table)) × (rounds ≤ 6) ⌝ }
+    ensures { λ r. ⌜ r ≡ wins (now (table .entry)) (now (start .entry)) rounds p q ⌝ }
+    ensures { λ _. ⌜ Right (now (table .entry)) (now (start .entry)) (now (memo .exit)) ⌝ }
 {
-    let w = (n + 63) / 64;
-    if !relation::has(start, w, p, q) {
+    let n = transitions::states(table);
+    if !relation::relates(start, n, p, q) {
         return true;
     }
     if rounds == 0 {
@@ -49,24 +44,12 @@ fn challenger(
     if memo[cell] == 2 {
         return true;
     }
-    let end = offsets[p + 1] as usize;
-    let mut i = offsets[p] as usize;
+    let end = transitions::offset(table, p + 1);
+    let mut i = transitions::offset(table, p);
     while i < end {
-        let t = targets[i] as usize;
-        if defender(
-            n,
-            size,
-            sources,
-            actions,
-            targets,
-            offsets,
-            start,
-            memo,
-            actions[i],
-            t,
-            q,
-            rounds,
-        ) {
+        let a = transitions::action(table, i);
+        let t = transitions::target(table, i);
+        if defender(table, start, memo, a, t, q, rounds) {
             memo[cell] = 2;
             return true;
         }
@@ -79,44 +62,25 @@ fn challenger(
 // Whether the defender, at q, loses after a transition by action a into t: whether each reply, which uses up one of the `rounds` rounds,
 // leaves a pair from which the challenger wins.
 fn defender(
-    n: usize,
-    size: usize,
-    sources: &[u16; 1024],
-    actions: &[u8; 1024],
-    targets: &[u16; 1024],
-    offsets: &[u16; 257],
+    table: &transitions::Table,
     start: &[u64],
     memo: &mut [u8],
-    a: u8,
+    a: usize,
     t: usize,
     q: usize,
     rounds: usize,
 ) -> bool
-    requires { ⌜ Playable n size (now sources) (now actions) (now targets) (now offsets) (now start) ⌝ }
-    requires { ⌜ Right (wins n size (now sources) (now actions) (now targets) (now start)) n (now memo) ⌝ }
-    requires { ⌜ (t < n) × (q < n) × (0 < rounds) × (rounds ≤ 6) ⌝ }
-    ensures { λ r. ⌜ r ≡ defenderLoses (system n size (now (sources .entry)) (now (actions .entry)) (now (targets .entry)))
-        (wins n size (now (sources .entry)) (now (actions .entry)) (now (targets .entry)) (now (start .entry)) (rounds - 1)) q a t ⌝ }
-    ensures { λ _. ⌜ Right (wins n size (now (sources .entry)) (now (actions .entry)) (now (targets .entry)) (now (start .entry))) n (now (memo .exit)) ⌝ }
+    requires { ⌜ Playable (now table) (now start) × Right (now table) (now start) (now memo) ⌝ }
+    requires { ⌜ (t < statesOf (now table)) × (q < statesOf (now table)) × (0 < rounds) × (rounds ≤ 6) ⌝ }
+    ensures { λ r. ⌜ r ≡ defenderLoses (tableLts (now (table .entry))) (wins (now (table .entry)) (now (start .entry)) (rounds - 1)) q a t ⌝ }
+    ensures { λ _. ⌜ Right (now (table .entry)) (now (start .entry)) (now (memo .exit)) ⌝ }
 {
-    let end = offsets[q + 1] as usize;
-    let mut j = offsets[q] as usize;
+    let end = transitions::offset(table, q + 1);
+    let mut j = transitions::offset(table, q);
     while j < end {
-        if actions[j] == a {
-            let r = targets[j] as usize;
-            if !challenger(
-                n,
-                size,
-                sources,
-                actions,
-                targets,
-                offsets,
-                start,
-                memo,
-                t,
-                r,
-                rounds - 1,
-            ) {
+        if transitions::action(table, j) == a {
+            let r = transitions::target(table, j);
+            if !challenger(table, start, memo, t, r, rounds - 1) {
                 return false;
             }
         }
@@ -126,37 +90,15 @@ fn defender(
 }
 
 // Whether the challenger wins, on a transition table.
-fn wins_table(
-    n: usize,
-    size: usize,
-    sources: &[u16; 1024],
-    actions: &[u8; 1024],
-    targets: &[u16; 1024],
-    offsets: &[u16; 257],
-    start: &[u64],
-    p: usize,
-    q: usize,
-    rounds: usize,
-) -> bool
-    requires { ⌜ Playable n size (now sources) (now actions) (now targets) (now offsets) (now start) ⌝ }
-    requires { ⌜ (p < n) × (q < n) × (rounds ≤ 6) ⌝ }
-    ensures { λ r. ⌜ r ≡ wins n size (now (sources .entry)) (now (actions .entry)) (now (targets .entry)) (now (start .entry)) rounds p q ⌝ }
+fn wins_table(table: &transitions::Table, start: &[u64], p: usize, q: usize, rounds: usize) -> bool
+    requires { ⌜ Playable (now table) (now start) ⌝ }
+    requires { ⌜ (p < statesOf (now table)) × (q < statesOf (now table)) × (rounds ≤ 6) ⌝ }
+    ensures { λ r. ⌜ r ≡ wins (now (table .entry)) (now (start .entry)) rounds p q ⌝ }
 {
     let mut memo = [0u8; 393216];
+    let n = transitions::states(table);
     let cells = 6 * n * n;
-    challenger(
-        n,
-        size,
-        sources,
-        actions,
-        targets,
-        offsets,
-        start,
-        &mut memo[..cells],
-        p,
-        q,
-        rounds,
-    )
+    challenger(table, start, &mut memo[..cells], p, q, rounds)
 }
 
 // Whether the challenger wins, on a readable encoding.
@@ -171,34 +113,8 @@ fn wins_readable(
     requires { ⌜ ReadableAs (now s) h × Matrix (h .states) (now start) × (p < h .states) × (q < h .states) × (rounds ≤ 6) ⌝ }
     ensures { λ r. ⌜ r ≡ challengerWins (ltsOf (now (s .entry))) (relationOf (h .states) (now (start .entry))) rounds p q ⌝ }
 {
-    let mut marks = [0u8; 256];
-    let mut offsets = [0u16; 257];
-    let mut sources = [0u16; 1024];
-    let mut actions = [0u8; 1024];
-    let mut targets = [0u16; 1024];
-    encoding::load(
-        s,
-        h,
-        &mut marks,
-        &mut offsets,
-        &mut sources,
-        &mut actions,
-        &mut targets,
-    );
-    let n = h.states;
-    let size = h.transitions;
-    wins_table(
-        n,
-        size,
-        &sources,
-        &actions,
-        &targets,
-        &offsets,
-        start,
-        p,
-        q,
-        rounds,
-    )
+    let table = transitions::load(s, h);
+    wins_table(&table, start, p, q, rounds)
 }
 
 // Hand play: whether the challenger wins from the pair (p, q) with `rounds` rounds.

@@ -5,7 +5,8 @@ ghost use Prim.Native.Nat.{_+_, _*_, _<_, _≤_};
 ghost use lib.ListN.{length};
 ghost use Rattle.lts.specs.Bounded.{concatBelow};
 ghost use Rattle.report.specs.Decimal.{decimal, written};
-ghost use Rattle.relation.specs.Matrix.{rowWords, relationOf};
+ghost use Rattle.rows.specs.Rows.{rowWords};
+ghost use Rattle.relation.specs.Matrix.{relationOf};
 ghost use Rattle.lines.specs.Lines.{headLine, relatedText, stateLine, statesText, refusedLine};
 
 // Writes text and then x in decimal from `at` on, and returns the place after them.
@@ -50,8 +51,7 @@ fn put_related(out: &mut [u8], at: usize, grid: &[u64], n: usize, p: usize, q: u
     ensures { λ _. ⌜ now (out .exit) ≡ written at (relatedText (relationOf n (now (grid .entry))) p q) (now (out .entry)) ⌝ }
     ensures { λ r. ⌜ r ≤ at + 4 ⌝ }
 {
-    let w = (n + 63) / 64;
-    if !relation::has(grid, w, p, q) {
+    if !relation::relates(grid, n, p, q) {
         return at;
     }
     put_number(out, at, b" ", q)

@@ -17,7 +17,7 @@ use Rattle.encoding.specs.Checked.{ReadableAs}
 use Rattle.encoding.specs.Encoding.{sheetRules}
 use Rattle.encoding.specs.Denotation.{ltsOf}
 use Rattle.encoding.proofs.Reader.{kept-readable}
-use Rattle.relation.proofs.Bounded.{lowest-le}
+use Rattle.lts.proofs.Below.{lowest-le}
 use Rattle.coarsest.specs.Call.{refined}
 use Rattle.report.specs.Decimal.{decimal}
 use Rattle.lines.specs.Lines.{blank, headLine, relatedText, stateLine, refusedLine}

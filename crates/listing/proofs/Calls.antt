@@ -19,7 +19,8 @@ use Rattle.encoding.specs.Checked.{ReadableAs}
 use Rattle.encoding.specs.Denotation.{ltsOf}
 use Rattle.encoding.proofs.Laws.{denoted}
 use Rattle.encoding.proofs.Reader.{reads, readable-kept}
-use Rattle.relation.specs.Matrix.{rowWords, relationOf, matrixOf}
+use Rattle.rows.specs.Rows.{rowWords}
+use Rattle.relation.specs.Matrix.{relationOf, matrixOf}
 use Rattle.relation.proofs.Matrices.{matrix-small, relation-matrix}
 use Rattle.inputs.specs.Inputs.{inputRules}
 use Rattle.simulation.specs.Calls.{TerminationOutcome, terminationCall}
@@ -47,9 +48,6 @@ module _ {s : List ℕ} {h : Header} (ok : ReadableAs s h) where
 
   pub states-most : h .states ≤ 256
   states-most = ok .recorded .sized .bounds .states
-
-  pub words-most : h .states * rowWords (h .states) ≤ 1024
-  words-most = matrix-small (h .states) states-most
 
   pub size : L .states ≡ h .states
   size = denoted s h (reads s h ok) .states

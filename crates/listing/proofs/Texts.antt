@@ -15,9 +15,9 @@ use Rattle.lts.specs.Rule.{Nothing, First, broken}
 use Rattle.lts.proofs.Rule.{refuses, passes}
 use Rattle.encoding.specs.Encoding.{sheetRules}
 use Rattle.encoding.specs.Denotation.{ltsOf}
-use Rattle.encoding.proofs.Bounded.{concat-same}
+use Rattle.lts.proofs.Lists.{concat-same}
 use Rattle.relation.specs.Matrix.{relationOf, matrixOf}
-use Rattle.relation.proofs.Bounded.{getD-listBelow}
+use Rattle.lts.proofs.Below.{getD-listBelow}
 use Rattle.relation.proofs.Matrices.{relation-matrix}
 use Rattle.coarsest.specs.declared.Counts.{Counts}
 use Rattle.coarsest.specs.Call.{CoarsestOutcome, refined}

@@ -5,7 +5,8 @@ use mathlib.Core.List.{List, _++_}
 use lib.ListN.{length}
 use Rattle.encoding.specs.declared.Header.{Header}
 use Rattle.encoding.specs.Checked.{ReadableAs}
-use Rattle.relation.specs.Matrix.{rowWords, relationOf}
+use Rattle.rows.specs.Rows.{rowWords}
+use Rattle.relation.specs.Matrix.{relationOf}
 use Rattle.coarsest.specs.declared.Counts.{Counts}
 use Rattle.lines.specs.Lines.{headLine, statesText}
 

@@ -6,7 +6,7 @@ ghost use lib.ListN.{length, drop};
 ghost use Rattle.lts.specs.Refusal.{refusalNumber};
 ghost use Rattle.encoding.specs.Checked.{ReadableAs};
 ghost use Rattle.encoding.specs.Denotation.{ltsOf};
-ghost use Rattle.relation.specs.Matrix.{rowWords};
+ghost use Rattle.rows.specs.Rows.{rowWords};
 ghost use Rattle.simulation.specs.Calls.{terminationCall};
 ghost use Rattle.coarsest.specs.Call.{coarsestReply, coarsestCall};
 ghost use Rattle.report.specs.Decimal.{written};
@@ -86,8 +86,7 @@ fn put_readable(s: &[u8], h: encoding::Header, out: &mut [u8]) -> usize
     ensures { λ _. ⌜ now (out .exit) ≡ written 0 (systemText (ltsOf (now (s .entry)))) (now (out .entry)) ⌝ }
 {
     let n = h.states;
-    let w = (n + 63) / 64;
-    let size = n * w;
+    let size = relation::matrix_words(n);
     let mut start = [0u64; 1024];
     let mut grid = [0u64; 1024];
     let mut representatives = [0u16; 256];

@@ -11,6 +11,8 @@ pub mod Strategy
 pub mod Union
 pub mod Demand
 pub mod Cases
-pub mod Table
 pub mod Comparison
 pub mod Rule
+pub mod Below
+pub mod Lists
+pub mod Transitions

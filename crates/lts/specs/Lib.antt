@@ -7,5 +7,5 @@ pub mod Game
 pub mod Union
 pub mod Refusal
 pub mod Rule
-pub mod Table
 pub mod Demand
+pub mod Transitions

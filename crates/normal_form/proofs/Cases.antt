@@ -15,7 +15,8 @@ use Rattle.lts.specs.declared.Refusal.{Refusal}
 use Rattle.lts.specs.Rule.{Nothing, broken, checked, Reply, refused as Unreadable}
 use Rattle.lts.proofs.Rule.{numbered}
 use Rattle.encoding.specs.Denotation.{any, ltsOf}
-use Rattle.encoding.specs.Normal.{Transition, transitionsTo, transitionsBy, transitionsOf, transitionsBelow, transitions, firstIndex, nextIndex, normalHeader, normalState, normalTransition, statesBytes, transitionsBytes, normal}
+use Rattle.lts.specs.Transitions.{Transition, transitionsTo, transitionsBy, transitionsOf, transitionsBelow, transitions}
+use Rattle.normal_form.specs.Normal.{firstIndex, nextIndex, normalHeader, normalState, normalTransition, statesBytes, transitionsBytes, normal}
 use Rattle.normal_form.specs.NormalForm.{before, inOrder, IsNormal, NormalForm}
 use Rattle.normal_form.specs.Normalise.{normaliseRules, NormalisePromise}
 use Rattle.normal_form.proofs.Laws.{normal-form}

@@ -11,7 +11,7 @@ use Rattle.encoding.specs.declared.Reading.the-variants.{Readable}
 use Rattle.encoding.specs.Records.{headerOf}
 use Rattle.encoding.specs.Encoding.{sheetRules, readEncoding}
 use Rattle.encoding.specs.Denotation.{ltsOf}
-use Rattle.encoding.specs.Normal.{normal}
+use Rattle.normal_form.specs.Normal.{normal}
 use Rattle.encoding.specs.Checked.{ReadableAs}
 use Rattle.normal_form.specs.NormalForm.{IsNormal, IsBytes, NormalForm}
 use Rattle.normal_form.specs.Normalise.{NormaliseOutcome, normaliseRules, normaliseCall, NormalisePromise}

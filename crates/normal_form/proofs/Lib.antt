@@ -1,4 +1,6 @@
 pub mod Bytes
+pub mod Tables
+pub mod Written
 pub mod NormalReads
 pub mod NormalChains
 pub mod NormalSame

@@ -16,14 +16,15 @@ use Rattle.encoding.specs.Encoding.{walk, chain, reached, member, distinct, sta
 use Rattle.encoding.specs.Checked.{ReadableAs, Recorded}
 use Rattle.lts.specs.System.{Lts}
 use Rattle.encoding.specs.Denotation.{ltsOf}
-use Rattle.encoding.specs.Normal.{Transition, transitionsOf, transitionsBelow, firstIndex, nextIndex, normal, normalState, normalTransition}
+use Rattle.lts.specs.Transitions.{Transition, transitionsOf, transitionsBelow}
+use Rattle.normal_form.specs.Normal.{firstIndex, nextIndex, normal, normalState, normalTransition}
 use Rattle.lts.specs.Bounded.{concatBelow}
-use Rattle.encoding.proofs.Bounded.{all-true}
+use Rattle.lts.proofs.Below.{all-of}
 use Rattle.encoding.proofs.Chains.{walk-end}
 use Rattle.encoding.proofs.Counting.{all-count}
 use Rattle.encoding.proofs.Denotation.{lts-states, lts-actions}
-use Rattle.encoding.proofs.Order.{nth, every-nth, up-none, up-length, up-grows, Valid, of-keeps, Sourced, all-keep, state-nth, later}
-use Rattle.encoding.proofs.Codes.{code}
+use Rattle.lts.proofs.Transitions.{nth, every-nth, up-none, up-length, up-grows, Valid, of-keeps, Sourced, all-keep, state-nth, later}
+use Rattle.transitions.proofs.Codes.{code}
 use Rattle.normal_form.proofs.NormalReads.{next-small, normal-state, normal-transition, normal-length}
 
 pub drop-nth : (l : List Transition) (i : ℕ) → i < length l → drop i l ≡ nth l i ∷ drop (suc i) l
@@ -206,7 +207,7 @@ module _ (s : List ℕ) (h : Header) (g : ReadableAs s h) where
 
   states-ok : statesFit (normal L) h ≡ true
   unfolding statesFit stateFits
-  states-ok = all-true _ (h .states) (λ p l. rw (state-is p l) (fits p l))
+  states-ok = all-of (h .states) _ (λ p l. rw (state-is p l) (fits p l))
     where
       fits : (p : ℕ) → p < h .states → (leb (cond (L .terminating p) 1 0) 1 && true && leb (firstIndex (at p) (at (suc p))) (h .transitions)) ≡ true
       fits p l =
@@ -218,7 +219,7 @@ module _ (s : List ℕ) (h : Header) (g : ReadableAs s h) where
 
   transitions-ok : transitionsFit (normal L) h ≡ true
   unfolding transitionsFit transitionFits L all
-  transitions-ok = all-true _ (h .transitions) (λ i l. rw (add-one, normal-at i l) (fits i l))
+  transitions-ok = all-of (h .transitions) _ (λ i l. rw (add-one, normal-at i l) (fits i l))
     where
       fits : (i : ℕ) → i < h .transitions
           → (leb 1 (nth all i .action) && leb (nth all i .action) (h .actions) && true && ltb (nth all i .target) (h .states) && leb (nextIndex (suc i) (nth all i) (drop (suc i) all)) (h .transitions)) ≡ true
@@ -254,7 +255,7 @@ module _ (s : List ℕ) (h : Header) (g : ReadableAs s h) where
   unfolding chainsFit
   chains-ok =
       rw (reached-on (h .states) (le-refl _), at-end, upto-distinct 1 (h .transitions))
-      (all-true _ (h .transitions) (λ i l. upto-in (i + 1) 1 (h .transitions) (omega arith) (omega arith)))
+      (all-of (h .transitions) _ (λ i l. upto-in (i + 1) 1 (h .transitions) (omega arith) (omega arith)))
 
   -- ## Rule 6
   pub successor-on : (p i : ℕ) → p < h .states → i < length (transitionsOf L p) → successor (normal L) h (suc (at p + i)) ≡ code (nth (transitionsOf L p) i)

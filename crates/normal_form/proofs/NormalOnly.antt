@@ -19,10 +19,11 @@ use Rattle.encoding.specs.Encoding.{walk, chain, reached, member, successor, st
 use Rattle.encoding.specs.Checked.{ReadableAs}
 use Rattle.encoding.specs.Denotation.{ltsOf}
 use Rattle.normal_form.specs.NormalForm.{IsNormal, IsBytes}
-use Rattle.encoding.proofs.Bounded.{all-at, Every}
+use Rattle.lts.proofs.Below.{all-at}
+use Rattle.lts.proofs.Lists.{Every}
 use Rattle.encoding.proofs.Chains.{transition-known}
 use Rattle.encoding.proofs.Denotation.{transition-member, mark-byte}
-use Rattle.encoding.proofs.Codes.{Rising, rising-out}
+use Rattle.transitions.proofs.Codes.{Rising, rising-out}
 use Rattle.encoding.proofs.Counting.{member-keeps, Good, good-successors}
 use Rattle.normal_form.proofs.Ordered.{chain-ends, chain-rising, each-record}
 
@@ -215,13 +216,13 @@ module _ (u v : List ℕ) (h : Header) (gu : ReadableAs u h) (gv : ReadableAs v 
     spare-state : (s : List ℕ) → ReadableAs s h → (p : ℕ) → p < h .states → stateRecord s h p .spare ≡ 0
     unfolding statesFit stateFits
     spare-state s g p l =
-        let q = simp and-eq-true-iff at (all-at _ (h .states) p (g .recorded .states) l) in
+        let q = simp and-eq-true-iff at (all-at (h .states) _ (g .recorded .states) p l) in
         omega (arith, eqb-true)
 
     spare-transition : (s : List ℕ) → ReadableAs s h → (i : ℕ) → i < h .transitions → transitionRecord s h (suc i) .spare ≡ 0
     unfolding transitionsFit transitionFits
     spare-transition s g i l =
-        let q = simp (add-one, and-eq-true-iff) at (all-at _ (h .transitions) i (g .recorded .transitions) l) in
+        let q = simp (add-one, and-eq-true-iff) at (all-at (h .transitions) _ (g .recorded .transitions) i l) in
         omega (arith, eqb-true)
 
     states : (p : ℕ) → p < h .states → stateRecord u h p ≡ stateRecord v h p

@@ -1,7 +1,6 @@
 -- What `normal` writes of a readable encoding is in normal form, and a sequence of bytes.
 use Prim.Native.Nat.{ℕ, zero, suc, _+_, _<_}
 use mathlib.Core.Path.{_≡_, refl, sym, _∙_}
-use mathlib.Core.Bool.{Bool, true, false, cond}
 use mathlib.Core.List.{List, [], _∷_, _++_}
 use native.Mathlib.Omega.{arith}
 use native.Mathlib.Nat.{le-refl, add-zero, add-suc, suc-add}
@@ -13,13 +12,14 @@ use Rattle.encoding.specs.declared.TransitionRecord.{TransitionRecord}
 use Rattle.encoding.specs.Records.{two, headerBytes, stateBytes, transitionBytes}
 use Rattle.encoding.specs.Checked.{ReadableAs}
 use Rattle.encoding.specs.Denotation.{ltsOf}
-use Rattle.encoding.specs.Normal.{Transition, transitionsBelow, normalState, normalTransition, statesBytes, transitionsBytes, normal}
+use Rattle.lts.specs.Transitions.{Transition, transitionsBelow}
+use Rattle.normal_form.specs.Normal.{normalState, normalTransition, statesBytes, transitionsBytes, normal}
 use Rattle.normal_form.specs.NormalForm.{IsNormal, IsBytes}
-use Rattle.encoding.proofs.Bounded.{Every, every-append, every-at, every-more, concat-keeps}
+use Rattle.lts.proofs.Lists.{Every, every-append, every-at, every-more, concat-keeps}
 use Rattle.encoding.proofs.Denotation.{lts-actions}
-use Rattle.encoding.proofs.Order.{Sourced, all-keep}
-use Rattle.encoding.proofs.Codes.{codes-up}
-use Rattle.normal_form.proofs.Bytes.{normal-form}
+use Rattle.lts.proofs.Transitions.{Sourced, all-keep}
+use Rattle.transitions.proofs.Codes.{codes-up}
+use Rattle.normal_form.proofs.Bytes.{mark-small, normal-form}
 use Rattle.normal_form.proofs.NormalChains.{L, upto, reached-on, at-end}
 use Rattle.normal_form.proofs.NormalSame.{few-states, chain-codes, normal-readable}
 use Rattle.normal_form.proofs.Ordered.{is-normal}
@@ -75,10 +75,6 @@ module _ (s : List ℕ) (h : Header) (g : ReadableAs s h) where
   unfolding statesBytes normalState Small
   normal-bytes i l = every-at Small 0 (normal (ltsOf s)) i all l
     where
-      mark : (b : Bool) → cond b 1 0 < 256
-      mark true = omega arith
-      mark false = omega arith
-
       actions : Every (λ x. x .action < 256) (transitionsBelow (ltsOf s) (h .states))
       actions =
           every-more (Sourced (ltsOf s) (h .states)) (λ x. x .action < 256) (transitionsBelow (ltsOf s) (h .states))
@@ -93,5 +89,5 @@ module _ (s : List ℕ) (h : Header) (g : ReadableAs s h) where
           rw (normal-form s h g)
           (every-append Small (headerBytes h ++ statesBytes (ltsOf s) (h .states)) (transitionsBytes 1 (transitionsBelow (ltsOf s) (h .states)))
           (every-append Small (headerBytes h) (statesBytes (ltsOf s) (h .states)) (header-small h)
-          (concat-keeps _ Small (h .states) (λ p u. state-small (normalState (ltsOf s) p) (mark (ltsOf s .terminating p)) (omega arith))))
+          (concat-keeps _ Small (h .states) (λ p u. state-small (normalState (ltsOf s) p) (mark-small (ltsOf s .terminating p)) (omega arith))))
           (transitions-small 1 (transitionsBelow (ltsOf s) (h .states)) actions))

@@ -15,13 +15,14 @@ use Rattle.encoding.specs.declared.StateRecord.{StateRecord}
 use Rattle.encoding.specs.declared.TransitionRecord.{TransitionRecord}
 use Rattle.encoding.specs.Records.{numberAt, two, headerOf, headerBytes, stateRecordAt, stateBytes, transitionRecordAt, transitionBytes, stateRecord, transitionRecord}
 use Rattle.encoding.specs.Denotation.{ltsOf}
-use Rattle.encoding.specs.Normal.{Transition, transitionsBelow, firstIndex, nextIndex, normalState, normalTransition, statesBytes, transitionsBytes, normal}
+use Rattle.lts.specs.Transitions.{Transition, transitionsBelow}
+use Rattle.normal_form.specs.Normal.{firstIndex, nextIndex, normalState, normalTransition, statesBytes, transitionsBytes, normal}
 use Rattle.encoding.specs.Checked.{ReadableAs}
-use Rattle.encoding.proofs.Bounded.{concat-at}
+use Rattle.lts.proofs.Lists.{concat-at}
 use Rattle.encoding.proofs.Denotation.{lts-states}
-use Rattle.encoding.proofs.Order.{nth, every-nth, Sourced, all-keep, up-grows}
+use Rattle.lts.proofs.Transitions.{nth, every-nth, Sourced, all-keep, up-grows}
 use Rattle.encoding.proofs.Counting.{all-count}
-use Rattle.normal_form.proofs.Bytes.{record-length, transitions-length, records-length, header-length, normal-form}
+use Rattle.normal_form.proofs.Bytes.{record-length, transitions-length, states-length, header-length, normal-form}
 
 -- ## What is written is read back
 back : (x : ℕ) → x < 65536 → x % 256 + 256 * (x / 256 % 256) ≡ x
@@ -81,9 +82,8 @@ transition-byte (x ∷ l) k (suc j) i m u =
 
 module _ (s : List ℕ) (h : Header) (g : ReadableAs s h) where
   pub normal-length : length (normal (ltsOf s)) ≡ length s
-  unfolding statesBytes
   normal-length =
-      let p = records-length (normalState (ltsOf s)) (h .states) in
+      let p = states-length (ltsOf s) (h .states) in
       let q = transitions-length 1 (transitionsBelow (ltsOf s) (h .states)) in
       let c = all-count s h g in
       let z = g .recorded .sized .long in
@@ -99,8 +99,8 @@ module _ (s : List ℕ) (h : Header) (g : ReadableAs s h) where
   unfolding statesBytes stateBytes two
   state-byte p i l k =
       let f : ℕ → List ℕ = λ q. stateBytes (normalState (ltsOf s) q) in
-      let z = records-length (normalState (ltsOf s)) p in
-      let y = records-length (normalState (ltsOf s)) (h .states) in
+      let z = states-length (ltsOf s) p in
+      let y = states-length (ltsOf s) (h .states) in
       let e : 6 + 4 * p + i ≡ length (headerBytes h) + (length (concatBelow p f) + i) = rw header-length (omega arith) in
       let n = length-append (headerBytes h) (statesBytes (ltsOf s) (h .states)) in
       let w = header-length h in
@@ -119,11 +119,10 @@ module _ (s : List ℕ) (h : Header) (g : ReadableAs s h) where
 
   transition-at : (i j : ℕ) → i < h .transitions → j < 6 → getD (normal (ltsOf s)) (6 + 4 * h .states + 6 * i + j) 0
       ≡ getD (transitionBytes (normalTransition (suc i) (nth (transitionsBelow (ltsOf s) (h .states)) i) (drop (suc i) (transitionsBelow (ltsOf s) (h .states))))) j 0
-  unfolding statesBytes
   transition-at i j l k =
       let all = transitionsBelow (ltsOf s) (h .states) in
       let a = headerBytes h ++ statesBytes (ltsOf s) (h .states) in
-      let y = records-length (normalState (ltsOf s)) (h .states) in
+      let y = states-length (ltsOf s) (h .states) in
       let n = length-append (headerBytes h) (statesBytes (ltsOf s) (h .states)) in
       let w = header-length h in
       let c = all-count s h g in

@@ -12,11 +12,12 @@ use lib.Dec.{eqb}
 use Rattle.encoding.specs.declared.Header.{Header}
 use Rattle.encoding.specs.Encoding.{chain, member, successor, successorsFit}
 use Rattle.encoding.specs.Denotation.{ltsOf}
-use Rattle.encoding.specs.Normal.{transitionsOf, normal}
+use Rattle.lts.specs.Transitions.{transitionsOf}
+use Rattle.normal_form.specs.Normal.{normal}
 use Rattle.encoding.specs.Checked.{ReadableAs}
-use Rattle.encoding.proofs.Bounded.{all-true}
+use Rattle.lts.proofs.Below.{all-of}
 use Rattle.encoding.proofs.Denotation.{lts-states, lts-actions, lts-terminating, transition-member, Sound, sound}
-use Rattle.encoding.proofs.Codes.{code, codes-distinct, codes-in, codes-out}
+use Rattle.transitions.proofs.Codes.{code, codes-distinct, codes-in, codes-out}
 use Rattle.normal_form.proofs.NormalReads.{normal-header}
 use Rattle.normal_form.proofs.NormalChains.{L, recorded, chains-ok, successors-on, chain-on, state-is}
 
@@ -39,7 +40,7 @@ module _ (s : List ℕ) (h : Header) (g : ReadableAs s h) where
 
   successors-ok : successorsFit (normal (L s h g)) h ≡ true
   unfolding successorsFit
-  successors-ok = all-true _ (h .states) (λ p l. rw (chain-codes p l) (codes-distinct (L s h g) few-states p))
+  successors-ok = all-of (h .states) _ (λ p l. rw (chain-codes p l) (codes-distinct (L s h g) few-states p))
 
   pub normal-readable : ReadableAs (normal (ltsOf s)) h
   unfolding L

@@ -11,16 +11,16 @@ use borrow.Author.Tests.{eq-eqb, ne-eqb, eqb-true, lt-ltb, le-ltb, ltb-true}
 use lib.ListN.{length}
 use lib.Dec.{eqb, ltb}
 use Rattle.lts.specs.Bounded.{listBelow}
-use Rattle.relation.proofs.Bounded.{length-listBelow, getD-listBelow}
+use Rattle.lts.proofs.Below.{length-listBelow, getD-listBelow, all-at, all-of}
 use Rattle.encoding.specs.declared.Header.{Header}
 use Rattle.encoding.specs.declared.TransitionRecord.{TransitionRecord}
 use Rattle.encoding.specs.Records.{stateRecord, transitionRecord}
 use Rattle.encoding.specs.Encoding.{walk, chain, reached, successor}
 use Rattle.encoding.specs.Checked.{ReadableAs}
 use Rattle.normal_form.specs.NormalForm.{before, inOrder, IsNormal}
-use Rattle.encoding.proofs.Bounded.{all-at, all-true, Every, every-at, concat-keeps, concat-length, concat-grows}
+use Rattle.lts.proofs.Lists.{Every, every-at, concat-keeps, concat-length, concat-grows}
 use Rattle.encoding.proofs.Chains.{first-known, transition-known}
-use Rattle.encoding.proofs.Codes.{Rising}
+use Rattle.transitions.proofs.Codes.{Rising}
 
 -- ## One record before another, by the numbers 256 * action + target
 before-up : (r q : TransitionRecord) → r .target < 256 → before r q ≡ true → 256 * r .action + r .target < 256 * q .action + q .target
@@ -125,7 +125,7 @@ module _ (s : List ℕ) (h : Header) (g : ReadableAs s h) where
       walk-rising at (suc (h .transitions)) (stateRecord s h p .first) 0 (first-known s h (g .recorded) p l .bound) (λ k. omega arith)
     where
       at : (j : ℕ) → 1 ≤ j → j ≤ h .transitions → inOrder s h j ≡ true
-      at j a b = let e : j - 1 + 1 ≡ j = omega arith in rw e at (all-at _ (h .transitions) (j - 1) (n .ordered) (omega arith))
+      at j a b = let e : j - 1 + 1 ≡ j = omega arith in rw e at (all-at (h .transitions) _ (n .ordered) (j - 1) (omega arith))
 
 -- what each record keeps that a chain holds, the records 1 to k do
 pub each-record : (s : List ℕ) (h : Header) → reached s h (h .states) ≡ listBelow (h .transitions) suc → (P : ℕ → Type 0)
@@ -145,4 +145,4 @@ is-normal s h g e r =
     each-record s h e (λ x. inOrder s h x ≡ true) (λ p l.
     let first = first-known s h (g .recorded) p l .bound in
     rising-walk s h g (suc (h .transitions)) (stateRecord s h p .first) 0 first (chain-short s h g long p l) (r p l)) in
-    record { consecutive = e; ordered = all-true _ (h .transitions) (λ i l. rw (add-one i) (o i l)) }
+    record { consecutive = e; ordered = all-of (h .transitions) _ (λ i l. rw (add-one i) (o i l)) }

@@ -1,22 +1,26 @@
 -- What normalising comes to, by what reading answers.
 use Prim.Native.Nat.{ℕ}
 use mathlib.Core.Path.{_≡_, refl, sym, ap, _∙_}
-use mathlib.Core.List.{List, []}
+use mathlib.Core.List.{List, [], _++_, append-nil}
 use borrow.Author.Tests.{eq-eqb, ne-eqb}
-use lib.ListN.{length}
+use lib.ListN.{length, drop}
+use lib.Seq.{drop-length}
+use Rattle.lts.specs.System.{Lts}
 use Rattle.lts.specs.declared.Refusal.{Refusal}
 use Rattle.lts.specs.declared.Refusal.the-variants.{Buffer}
 use Rattle.lts.specs.declared.Checked.{Checked}
 use Rattle.lts.specs.declared.Checked.the-variants.{Passed, Refused as Unwritten}
-use Rattle.lts.specs.Rule.{Nothing, First, broken, checkedReply}
+use Rattle.lts.specs.Rule.{First, broken, checkedReply}
 use Rattle.lts.proofs.Rule.{stop, pass, done, first-part, second-part, refuses, passes}
 use Rattle.encoding.specs.declared.Header.{Header}
 use Rattle.encoding.specs.declared.Reading.the-variants.{Readable, Refused}
 use Rattle.encoding.specs.Encoding.{sheetRules, readEncoding}
 use Rattle.encoding.specs.Denotation.{ltsOf}
-use Rattle.encoding.specs.Normal.{normal}
+use Rattle.transitions.specs.Table.{tableLts, Holds}
+use Rattle.normal_form.specs.Normal.{normal}
 use Rattle.normal_form.specs.Normalise.{normaliseRules, normaliseCall, NormalisePromise}
-use Rattle.encoding.proofs.Reader.{sheet-broken, sheet-kept}
+use Rattle.encoding.proofs.Reader.{readable-of, sheet-broken, sheet-kept}
+use Rattle.normal_form.proofs.NormalReads.{normal-length}
 use Rattle.normal_form.proofs.Laws.{normalise-promised}
 
 -- what `normalise` says of its answer r and of the bytes o that it leaves
@@ -39,8 +43,14 @@ module _ (s out : List ℕ) where
   unfolding normaliseRules
   misfit e n = refusing (stop _ _ _ (second-part (sheetRules s) _ (sheet-kept s e .0)) (sym (ne-eqb (length out) (length s) n)) refl)
 
-  pub written : {h : Header} {o : List ℕ} → readEncoding s ≡ Readable h → length out ≡ length s → o ≡ normal (ltsOf s) → Meets s out Passed o
+  -- the normal form of the table that the encoding is loaded into fills the buffer
+  pub fills : {h : Header} {t : List ℕ} → readEncoding s ≡ Readable h → length out ≡ length s → Holds (ltsOf s) t → length (normal (tableLts t)) ≡ length out
+  fills {h} e n k = ap (λ (L : Lts). length (normal L)) (k .same) ∙ normal-length s h (readable-of e) ∙ sym n
+
+  pub written : {h : Header} {t o : List ℕ} → readEncoding s ≡ Readable h → length out ≡ length s → Holds (ltsOf s) t
+      → o ≡ normal (tableLts t) ++ drop (length (normal (tableLts t))) out → Meets s out Passed o
   unfolding normaliseRules normaliseCall checkedReply
-  written {h} {o} e n w =
+  written {h} {t} {o} e n k w =
       let kept = done (pass _ _ _ (second-part (sheetRules s) _ (sheet-kept s e .0)) (sym (eq-eqb (length out) (length s) n)) refl) in
-      meets Passed o (rw w (passes (normaliseRules s out) _ _ kept))
+      let all : o ≡ normal (ltsOf s) = w ∙ rw (fills e n k, drop-length) (append-nil (normal (tableLts t))) ∙ ap normal (k .same) in
+      meets Passed o (rw all (passes (normaliseRules s out) _ _ kept))

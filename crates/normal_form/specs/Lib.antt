@@ -1,2 +1,4 @@
+pub mod Normal
 pub mod NormalForm
 pub mod Normalise
+pub mod Written

@@ -10,7 +10,7 @@ use Rattle.lts.specs.declared.Refusal.the-variants.{Buffer}
 use Rattle.lts.specs.Rule.{Rule, _otherwise_, Nothing, First, broken, checked, Reply, refused, given}
 use Rattle.encoding.specs.Encoding.{sheetRules}
 use Rattle.encoding.specs.Denotation.{ltsOf}
-use Rattle.encoding.specs.Normal.{normal}
+use Rattle.normal_form.specs.Normal.{normal}
 use Rattle.normal_form.specs.NormalForm.{NormalForm}
 
 -- the reply, and the lent buffer afterwards

@@ -1,24 +1,16 @@
 // The writer of the normal form (document 01, "The sheet"), and normalise.
 ghost use Prim.Native.Nat.{_+_, _<_, _≤_};
 ghost use mathlib.Core.Path.{_≡_};
-ghost use mathlib.Core.Bool.{cond};
-ghost use lib.Dec.{eqb, ltb};
-ghost use lib.ListN.{length, getD};
+ghost use mathlib.Core.List.{_++_};
+ghost use lib.ListN.{length, drop};
 ghost use lib.Seq.{sets};
 ghost use Rattle.lts.specs.Rule.{checkedReply};
+ghost use Rattle.lts.specs.Transitions.{transitions};
 ghost use Rattle.encoding.specs.Records.{stateAt, transitionAt, encodingLength};
-ghost use Rattle.encoding.specs.Denotation.{ltsOf};
-ghost use Rattle.encoding.specs.Normal.{firstIndex, transitionsBytes, normal};
-ghost use Rattle.encoding.specs.Checked.{Bounds, ReadableAs};
-ghost use Rattle.encoding.specs.Loaded.{tableTransitions, tableStates};
+ghost use Rattle.transitions.specs.Table.{statesOf, countOf, entryAt, tableLts, Formed};
+ghost use Rattle.normal_form.specs.Normal.{firstIndex, nextIndex, normalState, normalTransition, statesBytes, transitionsBytes, normal};
 ghost use Rattle.normal_form.specs.Normalise.{normaliseCall, NormalisePromise};
-
-// A 16-bit number as an index.
-fn wide(x: u16) -> usize
-    ensures { λ r. ⌜ (r ≡ x) × (r < 65536) ⌝ }
-{
-    x as usize
-}
+ghost use Rattle.normal_form.specs.Written.{Counts, transitionsFrom};
 
 // The first index of a state whose transitions stand after the first i and up to the first j.
 fn first_index(i: usize, j: usize) -> usize
@@ -31,13 +23,24 @@ fn first_index(i: usize, j: usize) -> usize
     i + 1
 }
 
-// The next index of transition i, from 0, of k.
-fn next_index(sources: &[u16; 1024], i: usize, k: usize) -> usize
-    requires { ⌜ (i < k) × (k ≤ 1024) ⌝ }
-    ensures { λ r. ⌜ r ≡ cond (ltb (i + 1) k) (cond (eqb (getD (now (sources .entry)) (i + 1) 0) (getD (now (sources .entry)) i 0)) (i + 2) 0) 0 ⌝ }
+// The record of state p.
+fn table_state(table: &transitions::Table, p: usize) -> encoding::StateRecord
+    requires { ⌜ Formed (now table) × (p < statesOf (now table)) ⌝ }
+    ensures { λ r. ⌜ r ≡ normalState (tableLts (now (table .entry))) p ⌝ }
 {
-    if i + 1 < k {
-        if sources[i + 1] == sources[i] {
+    let i = transitions::offset(table, p);
+    let j = transitions::offset(table, p + 1);
+    let mark = transitions::mark(table, p) as u8;
+    encoding::StateRecord::new(mark, 0, first_index(i, j))
+}
+
+// The next index of transition i, from 0.
+fn next_index(table: &transitions::Table, i: usize) -> usize
+    requires { ⌜ Formed (now table) × (i < countOf (now table)) ⌝ }
+    ensures { λ r. ⌜ (let t = now (table .entry) in r ≡ nextIndex (i + 1) (entryAt t i) (transitionsFrom t (i + 1))) ⌝ }
+{
+    if i + 1 < transitions::count(table) {
+        if transitions::source(table, i + 1) == transitions::source(table, i) {
             return i + 2;
         }
         return 0;
@@ -45,73 +48,63 @@ fn next_index(sources: &[u16; 1024], i: usize, k: usize) -> usize
     0
 }
 
-// The record of state p, from the marks and the row offsets.
-fn table_state(marks: &[u8; 256], offsets: &[u16; 257], p: usize) -> encoding::StateRecord
-    requires { ⌜ p < 256 ⌝ }
-    ensures { λ r. ⌜ r ≡ record { mark = getD (now (marks .entry)) p 0; spare = 0; first = firstIndex (getD (now (offsets .entry)) p 0) (getD (now (offsets .entry)) (p + 1) 0) } ⌝ }
+// The record of transition i, from 0.
+fn table_transition(table: &transitions::Table, i: usize) -> encoding::TransitionRecord
+    requires { ⌜ Formed (now table) × (i < countOf (now table)) ⌝ }
+    ensures { λ r. ⌜ (let t = now (table .entry) in r ≡ normalTransition (i + 1) (entryAt t i) (transitionsFrom t (i + 1))) ⌝ }
 {
-    let i = wide(offsets[p]);
-    let j = wide(offsets[p + 1]);
-    encoding::StateRecord::new(marks[p], 0, first_index(i, j))
+    let action = transitions::action(table, i) as u8;
+    let target = transitions::target(table, i);
+    encoding::TransitionRecord::new(action, 0, target, next_index(table, i))
+}
+
+// The header, from the counts.
+fn table_header(table: &transitions::Table) -> encoding::Header
+    ensures { λ r. ⌜ Counts (now (table .entry)) r ⌝ }
+{
+    let n = transitions::states(table);
+    let m = transitions::actions(table);
+    encoding::Header::new(n, m, transitions::count(table))
 }
 
 // Writes the state records.
-fn write_states(out: &mut [u8], h: encoding::Header, marks: &[u8; 256], offsets: &[u16; 257])
-    requires { ⌜ (Bounds h) × (encodingLength h ≤ length (now out)) ⌝ }
-    ensures { λ r. ⌜ now (out .exit) ≡ sets (now (out .entry)) (stateAt h 0) (tableStates (now (marks .entry)) (now (offsets .entry)) (h .states)) ⌝ }
+fn write_states(out: &mut [u8], h: encoding::Header, table: &transitions::Table)
+    requires { ⌜ Formed (now table) × Counts (now table) h × (encodingLength h ≤ length (now out)) ⌝ }
+    ensures { λ _. ⌜ now (out .exit) ≡ sets (now (out .entry)) (stateAt h 0) (statesBytes (tableLts (now (table .entry))) (h .states)) ⌝ }
 {
     let n = h.states;
     let mut p = 0;
     while p < n {
-        let r = table_state(marks, offsets, p);
+        let r = table_state(table, p);
         r.put(out, h.state_at(p));
         p += 1;
     }
 }
 
 // Writes the transition records.
-fn write_transitions(
-    out: &mut [u8],
-    h: encoding::Header,
-    sources: &[u16; 1024],
-    actions: &[u8; 1024],
-    targets: &[u16; 1024],
-)
-    requires { ⌜ (Bounds h) × (encodingLength h ≤ length (now out)) ⌝ }
-    ensures { λ r. ⌜ now (out .exit) ≡ sets (now (out .entry)) (transitionAt h 1) (transitionsBytes 1 (tableTransitions (now (sources .entry)) (now (actions .entry)) (now (targets .entry)) 0 (h .transitions))) ⌝ }
+fn write_transitions(out: &mut [u8], h: encoding::Header, table: &transitions::Table)
+    requires { ⌜ Formed (now table) × Counts (now table) h × (encodingLength h ≤ length (now out)) ⌝ }
+    ensures { λ _. ⌜ now (out .exit) ≡ sets (now (out .entry)) (transitionAt h 1) (transitionsBytes 1 (transitions (tableLts (now (table .entry))))) ⌝ }
 {
     let k = h.transitions;
     let mut i = 0;
     while i < k {
-        let next = next_index(sources, i, k);
-        let r = encoding::TransitionRecord::new(actions[i], 0, wide(targets[i]), next);
+        let r = table_transition(table, i);
         r.put(out, h.transition_at(i + 1));
         i += 1;
     }
 }
 
-// Writes the normal form of a readable encoding into a buffer of its length.
-fn write_normal(s: &[u8], h: encoding::Header, out: &mut [u8])
-    requires { ⌜ (ReadableAs (now s) h) × (length (now out) ≡ length (now s)) ⌝ }
-    ensures { λ r. ⌜ now (out .exit) ≡ normal (ltsOf (now (s .entry))) ⌝ }
+// Writes the normal form of the table's system at the start of the buffer.
+pub fn write_table(table: &transitions::Table, out: &mut [u8])
+    requires { ⌜ Formed (now table) × (length (normal (tableLts (now table))) ≤ length (now out)) ⌝ }
+    ensures { λ _. ⌜ (let bytes = normal (tableLts (now (table .entry))) in
+        now (out .exit) ≡ bytes ++ drop (length bytes) (now (out .entry))) ⌝ }
 {
-    let mut marks = [0u8; 256];
-    let mut offsets = [0u16; 257];
-    let mut sources = [0u16; 1024];
-    let mut actions = [0u8; 1024];
-    let mut targets = [0u16; 1024];
-    encoding::load(
-        s,
-        h,
-        &mut marks,
-        &mut offsets,
-        &mut sources,
-        &mut actions,
-        &mut targets,
-    );
+    let h = table_header(table);
     h.put(out);
-    write_states(out, h, &marks, &offsets);
-    write_transitions(out, h, &sources, &actions, &targets);
+    write_states(out, h, table);
+    write_transitions(out, h, table);
 }
 
 // Writes an encoding's normal form, the only one that its Lts has. An encoding that is refused, and a buffer of another length than the
@@ -127,7 +120,8 @@ pub fn normalise(s: &[u8], out: &mut [u8]) -> lts::Checked
             if out.len() != s.len() {
                 return lts::Checked::Refused(lts::Refusal::Buffer);
             }
-            write_normal(s, h, out);
+            let table = transitions::load(s, h);
+            write_table(&table, out);
             lts::Checked::Passed
         }
     }

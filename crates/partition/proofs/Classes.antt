@@ -7,9 +7,10 @@ use native.Mathlib.Omega.{arith}
 use lib.ListN.{length, drop}
 use Rattle.lts.specs.System.{Set, Rel}
 use Rattle.lts.specs.Refinement.{block}
-use Rattle.relation.specs.Matrix.{inRow, rowOf, statesBelow, relationOf, matrixOf}
-use Rattle.relation.proofs.Rows.{inRow-of, inRow-written, length-written}
-use Rattle.relation.proofs.Matrices.{states-in, relation-of, matrixOf-cong}
+use Rattle.rows.specs.Rows.{inRow, rowOf, statesBelow}
+use Rattle.relation.specs.Matrix.{relationOf, matrixOf}
+use Rattle.rows.proofs.Rows.{inRow-of, inRow-written, length-written, states-in}
+use Rattle.relation.proofs.Matrices.{relation-of, matrixOf-cong}
 use Rattle.partition.specs.Pending.{Classes, blocksAt, Grown}
 
 -- no row is written, and every row

@@ -14,11 +14,12 @@ use Rattle.lts.specs.System.{Lts, anyState}
 use Rattle.lts.specs.Refinement.{Relations, block, representative, isRepresentative, pending, chosen, blockCount, representatives}
 use Rattle.lts.proofs.Bounded.{any-iff}
 use Rattle.lts.proofs.Count.{passing-at, passing-some}
-use Rattle.relation.specs.Matrix.{wordOf, wordAt, inRow, rowOf, rowWords, statesBelow, relationOf, Row}
-use Rattle.relation.proofs.Bounded.{lt-or-ge, any-cong, sum-cong, length-listBelow, listBelow-cong, lowest-cong}
-use Rattle.relation.proofs.Rows.{rowOf-cong, inRow-of}
-use Rattle.relation.proofs.Matrices.{inRow-drop, states-in, states-out}
-use Rattle.partition.proofs.Passing.{passing-cong, lowest-agree, lowest-test}
+use Rattle.rows.specs.Rows.{wordOf, wordAt, inRow, rowOf, rowWords, statesBelow, Row}
+use Rattle.relation.specs.Matrix.{relationOf}
+use Rattle.lts.proofs.Below.{lt-or-ge, any-cong, sum-cong, length-listBelow, listBelow-cong, lowest-cong, lowest-agree, lowest-test}
+use Rattle.rows.proofs.Rows.{rowOf-cong, inRow-of, states-in, states-out}
+use Rattle.relation.proofs.Matrices.{inRow-drop}
+use Rattle.lts.proofs.Lists.{passing-same}
 use Rattle.partition.specs.Pending.{pendingIn}
 
 -- ---- a row that states are put into one by one, ascending: after q states it holds those of S below q
@@ -71,13 +72,13 @@ states-row n S {row} h e = record {
 -- its states, listed
 pub passing-row : (n : ℕ) (S : ℕ → Bool) (row : List ℕ) → n ≤ 256 → row ≡ rowOf 4 (statesBelow n S) → passing n (inRow row) ≡ passing n S
 passing-row n S row small now =
-    passing-cong n _ _ (λ q h. ap (λ (l : List ℕ). inRow l q) now ∙ inRow-of 4 (statesBelow n S) q (omega arith) ∙ states-in n S q h)
+    passing-same n _ _ (λ q h. ap (λ (l : List ℕ). inRow l q) now ∙ inRow-of 4 (statesBelow n S) q (omega arith) ∙ states-in n S q h)
 
 -- whether p is the lowest state of its row, a part of a matrix that starts at the row's first word
-pub row-lowest-test : (n : ℕ) (g : List ℕ) (p : ℕ) {row : List ℕ} → row ≡ drop (p * rowWords n) g → p < n
-    → eqb (lowest (rowWords n * 64) (inRow row)) p ≡ eqb (lowest n (relationOf n g p)) p
-row-lowest-test n g p e hp =
-    ap (λ (l : List ℕ). eqb (lowest (rowWords n * 64) (inRow l)) p) e
+pub row-lowest-test : (n : ℕ) (g : List ℕ) (p : ℕ) {row : List ℕ} {w : ℕ} → w ≡ rowWords n → row ≡ drop (p * rowWords n) g → p < n
+    → eqb (lowest (w * 64) (inRow row)) p ≡ eqb (lowest n (relationOf n g p)) p
+row-lowest-test n g p width e hp =
+    ap₂ (λ (k : ℕ) (l : List ℕ). eqb (lowest (k * 64) (inRow l)) p) width e
     ∙ ap (λ (x : ℕ). eqb x p) (lowest-cong (rowWords n * 64) _ _ (λ i. inRow-drop (rowWords n) g p i)) ∙ lowest-test n (rowWords n * 64) (relationOf n g p) p (omega arith) hp
 
 -- ---- a list that is filled to its end
@@ -106,7 +107,7 @@ module _ (L : Lts) (s : Relations) (n : ℕ) (K W P : ℕ → ℕ → Bool) (siz
       (any-cong n _ _ (λ q hq. ap₂ xor (viewed p q hp hq) (related p q hp hq)) ∙ ap (λ (k : ℕ). anyBelow k (λ q. xor (s .viewed p q) (s .related p q))) (sym size))
 
   pub passing-pending : passing n (pendingIn n K W P) ≡ passing (L .states) (pending L s)
-  passing-pending = passing-cong n _ _ pending-in-is ∙ ap (λ (k : ℕ). passing k (pending L s)) (sym size)
+  passing-pending = passing-same n _ _ pending-in-is ∙ ap (λ (k : ℕ). passing k (pending L s)) (sym size)
 
   pub block-count-is : countBelow n (λ p. eqb (lowest n (P p)) p) ≡ blockCount L (s .related)
   unfolding countBelow blockCount isRepresentative

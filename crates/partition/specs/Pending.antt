@@ -8,7 +8,7 @@ use lib.Dec.{eqb}
 use Rattle.lts.specs.Bounded.{anyBelow, lowest}
 use Rattle.lts.specs.System.{Set, Rel}
 use Rattle.lts.specs.Refinement.{block}
-use Rattle.relation.specs.Matrix.{inRow}
+use Rattle.rows.specs.Rows.{inRow}
 
 -- p is the lowest state of its block in P, and its rows of W (V) and K differ
 unfoldable pub pendingIn : ℕ → Rel → Rel → Rel → Set

@@ -6,7 +6,8 @@ ghost use lib.Dec.{eqb, ltb};
 ghost use lib.ListN.{length, getD};
 ghost use Rattle.lts.specs.Bounded.{countBelow, passing, listBelow, lowest};
 ghost use Rattle.lts.specs.Refinement.{block};
-ghost use Rattle.relation.specs.Matrix.{inRow, rowOf, rowWords, statesBelow, relationOf, matrixOf, Matrix, Row};
+ghost use Rattle.rows.specs.Rows.{inRow, rowOf, rowWords, statesBelow, Row};
+ghost use Rattle.relation.specs.Matrix.{relationOf, matrixOf, Matrix};
 ghost use Rattle.splitting.specs.Split.{Equivalence};
 ghost use Rattle.partition.specs.Pending.{pendingIn, Reflexive, Classes, blocksAt, Grown};
 
@@ -15,15 +16,15 @@ fn block_of(related: &[u64], n: usize, p: usize) -> [u64; 4]
     requires { ⌜ (n ≤ 256) × Matrix n (now related) × (p < n) ⌝ }
     ensures { λ r. ⌜ r ≡ rowOf 4 (statesBelow n (block (relationOf n (now (related .entry))) p)) ⌝ }
 {
-    let w = (n + 63) / 64;
+    let w = rows::row_words(n);
     let row = relation::row_at(related, n, p);
     let mut out = [0u64; 4];
-    let mut q = relation::next_state(row, w, 0);
+    let mut q = rows::next_state(row, w, 0);
     while q < n {
-        if relation::has(related, w, q, p) {
-            relation::insert(&mut out, q);
+        if relation::relates(related, n, q, p) {
+            rows::insert(&mut out, q);
         }
-        q = relation::next_state(row, w, q + 1);
+        q = rows::next_state(row, w, q + 1);
     }
     out
 }
@@ -35,12 +36,12 @@ fn write_block(related: &[u64], n: usize, p: usize, blocks: &mut [u64], written:
     ensures { λ _. ⌜ now (blocks .exit) ≡ matrixOf n (blocksAt (inRow (now (written .exit))) (relationOf n (now (related .entry)))) ⌝ }
     ensures { λ _. ⌜ Grown n p (now (written .entry)) (now (written .exit)) ⌝ }
 {
-    if relation::contains(written, p) {
+    if rows::contains(written, p) {
         return;
     }
     let members = block_of(related, n, p);
-    splitting::set_views(blocks, n, &members, &members);
-    relation::row_union(written, &members, 4);
+    relation::set_rows(blocks, n, &members, &members);
+    rows::row_union(written, &members, 4);
 }
 
 // Writes each state's block into its row, a block at a time.
@@ -66,19 +67,23 @@ fn update_block(
     p: usize,
     pending: &mut [u64],
 )
-    requires { ⌜ (n ≤ 256) × Matrix n (now related) × Matrix n (now viewed) × Matrix n (now blocks) × Equivalence n (relationOf n (now blocks)) × (p < n) × (length (now pending) ≡ 4) ⌝ }
-    ensures { λ _. ⌜ now (pending .exit) ≡ rowOf 4 (λ x. cond (ltb x n && relationOf n (now (blocks .entry)) p x) (pendingIn n (relationOf n (now (related .entry))) (relationOf n (now (viewed .entry))) (relationOf n (now (blocks .entry))) x) (inRow (now (pending .entry)) x)) ⌝ }
+    requires { ⌜ ((n ≤ 256) × Matrix n (now related) × Matrix n (now viewed) × Matrix n (now blocks) × Equivalence n (relationOf n (now blocks))
+        × (p < n) × (length (now pending) ≡ 4)) ⌝ }
+    ensures { λ _. ⌜ (let K = relationOf n (now (related .entry)) in
+        let W = relationOf n (now (viewed .entry)) in
+        let P = relationOf n (now (blocks .entry)) in
+        now (pending .exit) ≡ rowOf 4 (λ x. cond (ltb x n && P p x) (pendingIn n K W P x) (inRow (now (pending .entry)) x))) ⌝ }
 {
-    let w = (n + 63) / 64;
+    let w = rows::row_words(n);
     let row = relation::row_at(blocks, n, p);
-    let low = relation::lowest_state(row, w);
-    relation::row_minus(pending, row, w);
-    if relation::row_differs(
+    let low = rows::lowest_state(row, w);
+    rows::row_minus(pending, row, w);
+    if rows::row_differs(
         relation::row_at(viewed, n, low),
         relation::row_at(related, n, low),
         w,
     ) {
-        relation::insert(pending, low);
+        rows::insert(pending, low);
     }
 }
 
@@ -91,18 +96,25 @@ pub fn update_pending(
     touched: &[u64; 4],
     pending: &mut [u64],
 )
-    requires { ⌜ (n ≤ 256) × Matrix n (now related) × Matrix n (now viewed) × Matrix n (now blocks) × Equivalence n (relationOf n (now blocks)) × (length (now pending) ≡ 4) × ((q : ℕ) → n ≤ q → q < 256 → inRow (now pending) q ≡ false) ⌝ }
-    requires { ⌜ ((p : ℕ) → p < n → inRow (now touched) p ≡ false → inRow (now pending) p ≡ pendingIn n (relationOf n (now related)) (relationOf n (now viewed)) (relationOf n (now blocks)) p) ⌝ }
-    ensures { λ _. ⌜ now (pending .exit) ≡ rowOf 4 (statesBelow n (pendingIn n (relationOf n (now (related .entry))) (relationOf n (now (viewed .entry))) (relationOf n (now (blocks .entry))))) ⌝ }
+    requires { ⌜ ((n ≤ 256) × Matrix n (now related) × Matrix n (now viewed) × Matrix n (now blocks) × Equivalence n (relationOf n (now blocks))
+        × (length (now pending) ≡ 4) × ((q : ℕ) → n ≤ q → q < 256 → inRow (now pending) q ≡ false)) ⌝ }
+    requires { ⌜ (let K = relationOf n (now related) in
+        let W = relationOf n (now viewed) in
+        let P = relationOf n (now blocks) in
+        (p : ℕ) → p < n → inRow (now touched) p ≡ false → inRow (now pending) p ≡ pendingIn n K W P p) ⌝ }
+    ensures { λ _. ⌜ (let K = relationOf n (now (related .entry)) in
+        let W = relationOf n (now (viewed .entry)) in
+        let P = relationOf n (now (blocks .entry)) in
+        now (pending .exit) ≡ rowOf 4 (statesBelow n (pendingIn n K W P))) ⌝ }
 {
-    let w = (n + 63) / 64;
+    let w = rows::row_words(n);
     let mut left = [0u64; 4];
-    relation::row_copy(&mut left, touched, 4);
-    let mut p = relation::next_state(&left, 4, 0);
+    rows::row_copy(&mut left, touched, 4);
+    let mut p = rows::next_state(&left, 4, 0);
     while p < n {
         update_block(related, viewed, blocks, n, p, pending);
-        relation::row_minus(&mut left, relation::row_at(blocks, n, p), w);
-        p = relation::next_state(&left, 4, p + 1);
+        rows::row_minus(&mut left, relation::row_at(blocks, n, p), w);
+        p = rows::next_state(&left, 4, p + 1);
     }
 }
 
@@ -111,7 +123,7 @@ pub fn count_pending(pending: &[u64; 4], n: usize) -> usize
     requires { ⌜ (n ≤ 256) × Row n (now pending) ⌝ }
     ensures { λ r. ⌜ r ≡ length (passing n (inRow (now (pending .entry)))) ⌝ }
 {
-    relation::row_count(pending, (n + 63) / 64)
+    rows::row_count(pending, rows::row_words(n))
 }
 
 // Number j, ascending, of the states in the row's first k words.
@@ -119,10 +131,10 @@ fn member_at(row: &[u64], k: usize, j: usize) -> usize
     requires { ⌜ (k ≤ length (now row)) × (k ≤ 1024) × (j < length (passing (k * 64) (inRow (now row)))) ⌝ }
     ensures { λ r. ⌜ r ≡ getD (passing (k * 64) (inRow (now (row .entry)))) j 0 ⌝ }
 {
-    let mut x = relation::next_state(row, k, 0);
+    let mut x = rows::next_state(row, k, 0);
     let mut i = 0;
     while i < j {
-        x = relation::next_state(row, k, x + 1);
+        x = rows::next_state(row, k, x + 1);
         i += 1;
     }
     x
@@ -139,7 +151,7 @@ pub fn next_block(pending: &[u64; 4], n: usize, c: usize, schedule: &[u16], step
     requires { ⌜ (n ≤ 256) × (0 < c) × (c ≡ length (passing n (inRow (now pending)))) ⌝ }
     ensures { λ r. ⌜ r ≡ getD (passing n (inRow (now (pending .entry)))) (getD (now (schedule .entry)) step 0 % c) 0 ⌝ }
 {
-    let w = (n + 63) / 64;
+    let w = rows::row_words(n);
     if step < schedule.len() {
         let e = wide(schedule[step]);
         return member_at(pending, w, e % c);
@@ -152,11 +164,11 @@ pub fn count_blocks(blocks: &[u64], n: usize) -> usize
     requires { ⌜ (n ≤ 256) × Matrix n (now blocks) ⌝ }
     ensures { λ r. ⌜ r ≡ countBelow n (λ p. eqb (lowest n (relationOf n (now (blocks .entry)) p)) p) ⌝ }
 {
-    let w = (n + 63) / 64;
+    let w = rows::row_words(n);
     let mut total: usize = 0;
     let mut p = 0;
     while p < n {
-        if relation::lowest_state(relation::row_at(blocks, n, p), w) == p {
+        if rows::lowest_state(relation::row_at(blocks, n, p), w) == p {
             total += 1;
             p += 1;
         } else {
@@ -171,10 +183,10 @@ pub fn write_names(blocks: &[u64], n: usize, names: &mut [u16])
     requires { ⌜ (n ≤ 256) × Matrix n (now blocks) × Reflexive n (relationOf n (now blocks)) × (length (now names) ≡ n) ⌝ }
     ensures { λ _. ⌜ now (names .exit) ≡ listBelow n (λ p. lowest n (relationOf n (now (blocks .entry)) p)) ⌝ }
 {
-    let w = (n + 63) / 64;
+    let w = rows::row_words(n);
     let mut p = 0;
     while p < n {
-        let low = relation::lowest_state(relation::row_at(blocks, n, p), w);
+        let low = rows::lowest_state(relation::row_at(blocks, n, p), w);
         names[p] = low as u16;
         p += 1;
     }

@@ -13,9 +13,9 @@ use lib.Seq.{getD-set-same, getD-set-other}
 use borrow.Author.Tests.{eq-eqb, ne-eqb, eqb-true, eqb-false, lt-ltb, le-ltb}
 use Rattle.lts.specs.Bounded.{anyBelow}
 use Rattle.lts.specs.System.{Set}
-use Rattle.relation.specs.Matrix.{inRow, rowOf, statesBelow, Next}
-use Rattle.relation.proofs.Bounded.{lt-or-ge, any-yes, any-more}
-use Rattle.relation.proofs.Rows.{inRow-of, rowOf-cong, row-ext}
+use Rattle.rows.specs.Rows.{inRow, rowOf, statesBelow, Next}
+use Rattle.lts.proofs.Below.{lt-or-ge, any-yes, any-more}
+use Rattle.rows.proofs.Rows.{inRow-of, rowOf-cong, row-ext}
 use Rattle.predecessors.specs.Sources.{keysInto, Fits, lastInto, Linked}
 use Rattle.predecessors.proofs.Laws.{keys-cong, keys-empty, keys-or}
 

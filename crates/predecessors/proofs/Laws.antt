@@ -1,49 +1,37 @@
 -- Laws of sets of states by action, and of the beginning of a run over a transition table. Assumes nothing.
-use mathlib.Core.Path.{_≡_, refl, sym, ap, ap₂, _∙_, subst, subst⁻¹}
+use mathlib.Core.Path.{_≡_, refl, sym, ap, ap₂, _∙_, subst}
 use mathlib.Core.Bool.{Bool, true, false, cond, not, _&&_, _||_, and-true, and-false, and-assoc}
-use mathlib.Core.List.{List, _++_, append-nil}
+use mathlib.Core.List.{List}
 use mathlib.Core.Logic.{⊎-elim}
-use Prim.Native.Nat.{ℕ, zero, suc, _+_, _*_, _/_, _%_, _≤_, _<_}
+use Prim.Native.Nat.{ℕ, zero, suc, _+_, _*_, _≤_, _<_}
 use native.Mathlib.Nat.{not-suc-le-zero}
+use native.Mathlib.Numerals.{add-one}
 use native.Mathlib.Omega.{arith}
-use lib.Dec.{T, eqb, eqb→eq}
-use lib.ListN.{length, getD, set, drop, replicate, length-drop, drop-of-length-le}
-use lib.Seq.{getD-drop, getD-set-same, getD-set-other}
+use lib.Dec.{eqb, eqb→eq}
+use lib.ListN.{length, getD, set, drop, replicate}
+use lib.Seq.{getD-set-same, getD-set-other}
 use borrow.Author.Tests.{eq-eqb, ne-eqb, eqb-true}
 use Rattle.lts.specs.Bounded.{_⇒_, anyBelow, allBelow}
 use Rattle.lts.specs.System.{Set, Rel, into}
 use Rattle.lts.specs.Refinement.{initial, remove}
-use Rattle.lts.specs.Table.{tableLts, Table}
-use Rattle.lts.proofs.Bounded.{and-iff, any-iff, test-ext}
-use Rattle.lts.proofs.System.{into-to, into-from}
-use Rattle.lts.proofs.Table.{table-formed}
-use Rattle.relation.specs.Matrix.{bit, inRow, rowOf, relationOf, matrixOf, setRow}
-use Rattle.relation.proofs.Bounded.{lt-or-ge, any-no, any-cong, all-cong, clash}
-use Rattle.relation.proofs.Rows.{inRow-zeros, inRow-ones, inRow-of, rowOf-cong, part-in}
+use Rattle.lts.proofs.Bounded.{and-iff, test-ext}
+use Rattle.lts.proofs.Below.{lt-or-ge, any-no, any-cong, all-cong, clash}
+use Rattle.rows.specs.Rows.{inRow, rowOf}
+use Rattle.rows.proofs.Rows.{inRow-ones, inRow-of, rowOf-cong, row-from-none, part-in}
+use Rattle.relation.specs.Matrix.{relationOf, matrixOf, setRow}
 use Rattle.relation.proofs.Matrices.{matrixOf-cong, relation-of}
-use Rattle.predecessors.specs.Sources.{Numbers, sourcesInto, Keyed, keysInto, Fits, actionSet}
-use Rattle.predecessors.proofs.Tables.{all-more, equal, entry-leads, entry-of, initial-at, has-actions}
-
--- ---- rows of words: belongs to relation
-
--- a row whose words were all written
-pub row-whole : (k : ℕ) (S : Set) (d : List ℕ) → length d ≡ k → rowOf k S ++ drop k d ≡ rowOf k S
-row-whole k S d e = ap (λ (l : List ℕ). rowOf k S ++ l) (drop-of-length-le d {i = k} (omega arith)) ∙ append-nil (rowOf k S)
-
--- what is added to words that are all 0
-pub row-from-none : (k : ℕ) (S : Set) → rowOf k (λ q. inRow (replicate k 0) q || S q) ≡ rowOf k S
-row-from-none k S = rowOf-cong k _ _ (λ q h. ap (λ (b : Bool). b || S q) (inRow-zeros k q))
+use Rattle.transitions.specs.Table.{statesOf, countOf, sourceAt, actionAt, targetAt, enters, tableLts, Formed}
+use Rattle.transitions.specs.Filling.{actionSet}
+use Rattle.transitions.proofs.Entries.{eqb-of}
+use Rattle.transitions.proofs.Lookups.{into-table}
+use Rattle.predecessors.specs.Sources.{Keyed, SetsInto, keysInto, Fits}
+use Rattle.predecessors.proofs.Tables.{initial-at, has-actions}
 
 -- ---- the sets of each action in one row
 
--- the words from 4 * a on hold the states of action a
-pub part-set : (sets : List ℕ) (a q : ℕ) → inRow (drop (4 * a) sets) q ≡ actionSet sets a q
-unfolding actionSet
-part-set sets a q = part-in sets a q
-
 -- a copy of the words from 4 * a on
 pub part-copied : (sets : List ℕ) (a : ℕ) {part row : List ℕ} → part ≡ drop (4 * a) sets → row ≡ rowOf 4 (inRow part) → row ≡ rowOf 4 (actionSet sets a)
-part-copied sets a lent copied = copied ∙ rowOf-cong 4 _ _ (λ q h. ap (λ (l : List ℕ). inRow l q) lent ∙ part-set sets a q)
+part-copied sets a lent copied = copied ∙ rowOf-cong 4 _ _ (λ q h. ap (λ (l : List ℕ). inRow l q) lent ∙ part-in sets a q)
 
 -- ---- the keys into X
 
@@ -82,28 +70,30 @@ keys-or (suc k) keys targets X Y x =
 
 -- ---- `write_keys`, transition by transition
 
-module _ (sources actions : List ℕ) where
-  pub keyed-none : (keys : List ℕ) → Keyed 0 sources actions keys
-  keyed-none keys = record { key = λ i h. absurd (not-suc-le-zero h) }
+abbrev pub KeyedBelow : List ℕ → ℕ → List ℕ → List ℕ → Type 0
+KeyedBelow t k keys targets = (i : ℕ) → i < k → (getD keys i 0 ≡ 256 * actionAt t i + sourceAt t i) × (getD targets i 0 ≡ targetAt t i)
 
-  pub keyed-more : (i : ℕ) (keys : List ℕ) → Keyed i sources actions keys → i < length keys → Keyed (i + 1) sources actions (set keys i (256 * getD actions i 0 + getD sources i 0))
-  keyed-more i keys keyed room = record {
-    key = λ j h. ⊎-elim
-        (λ (b : j < i). getD-set-other keys i j _ 0 (λ e. omega (arith, b, e)) ∙ keyed .key j b)
-        (λ (b : i ≤ j). let e : i ≡ j = omega (arith, b, h) in
-        subst (λ (x : ℕ). getD (set keys i (256 * getD actions i 0 + getD sources i 0)) x 0 ≡ 256 * getD actions x 0 + getD sources x 0) e
-        (getD-set-same keys i _ 0 room))
-        (lt-or-ge j i);
-  }
+pub keyed-none : (t keys targets : List ℕ) → KeyedBelow t 0 keys targets
+keyed-none t keys targets i h = absurd (not-suc-le-zero h)
 
--- a key into X names the source and the action
-pub into-sources : (k : ℕ) (sources actions keys targets : List ℕ) → Keyed k sources actions keys → (X : Set) (x : ℕ) → keysInto k keys targets X x ≡ sourcesInto k sources actions targets X x
-unfolding keysInto sourcesInto
-into-sources k sources actions keys targets keyed X x = any-cong k _ _ (λ i h. ap (λ (y : ℕ). eqb x y && X (getD targets i 0)) (keyed .key i h))
+pub keyed-more : (t : List ℕ) (i : ℕ) (keys targets : List ℕ) (x y : ℕ) → KeyedBelow t i keys targets → i < length keys → i < length targets
+    → x ≡ 256 * actionAt t i + sourceAt t i → y ≡ targetAt t i → KeyedBelow t (i + 1) (set keys i x) (set targets i y)
+keyed-more t i keys targets x y keyed room space key target j h = ⊎-elim
+    (λ (b : j < i). (
+      getD-set-other keys i j x 0 (λ e. omega (arith, b, e)) ∙ keyed j b .0,
+      getD-set-other targets i j y 0 (λ e. omega (arith, b, e)) ∙ keyed j b .1,
+    ))
+    (λ (b : i ≤ j). let e : i ≡ j = omega (arith, b, h) in
+    subst (λ (z : ℕ). (getD (set keys i x) z 0 ≡ 256 * actionAt t z + sourceAt t z) × (getD (set targets i y) z 0 ≡ targetAt t z)) e
+    (getD-set-same keys i x 0 room ∙ key, getD-set-same targets i y 0 space ∙ target))
+    (lt-or-ge j i)
 
--- the part of action a in a row of sets
+pub keyed-all : (t : List ℕ) (i : ℕ) (keys targets : List ℕ) → KeyedBelow t i keys targets → i ≡ countOf t → Keyed t keys targets
+keyed-all t i keys targets keyed e = record { key = λ j h. keyed j (omega (arith, h, e)) .0; target = λ j h. keyed j (omega (arith, h, e)) .1 }
+
+-- ---- the part of an action
+
 pub action-set-of : (S : Set) {row : List ℕ} (a q : ℕ) → row ≡ rowOf 260 S → a ≤ 64 → q < 256 → actionSet row a q ≡ S (256 * a + q)
-unfolding actionSet
 action-set-of S a q e ha hq = ap (λ (l : List ℕ). inRow l (256 * a + q)) e ∙ inRow-of 260 S (256 * a + q) (omega arith)
 
 -- where N and Y have all targets, what has a transition and none into Y is what has one into N and none into Y
@@ -122,111 +112,95 @@ remove-enabled k keys targets N Y whole x =
 
 -- ---- `keep_enabled`, transition by transition: after i of them (p, q) is left if q has each action that they show for p
 
-abbrev pub keptBelow : List ℕ → List ℕ → List ℕ → Rel → ℕ → Rel
-keptBelow sources actions enabled K i p q = K p q && allBelow i (λ j. eqb (getD sources j 0) p ⇒ actionSet enabled (getD actions j 0) q)
+abbrev pub shown : List ℕ → List ℕ → ℕ → ℕ → ℕ → Bool
+shown t enabled p q i = eqb (sourceAt t i) p ⇒ actionSet enabled (actionAt t i) q
 
-module _ (n : ℕ) (sources actions enabled : List ℕ) (K : Rel) where
-  pub kept-none : matrixOf n K ≡ matrixOf n (keptBelow sources actions enabled K 0)
+abbrev pub keptBelow : List ℕ → List ℕ → Rel → ℕ → Rel
+keptBelow t enabled K i p q = K p q && allBelow i (shown t enabled p q)
+
+module _ (n : ℕ) (t enabled : List ℕ) (K : Rel) where
+  pub kept-none : matrixOf n K ≡ matrixOf n (keptBelow t enabled K 0)
   unfolding allBelow
   kept-none = matrixOf-cong n _ _ (λ p q hp hq. sym (and-true (K p q)))
 
-  pub kept-more : (i : ℕ) (g part : List ℕ) → g ≡ matrixOf n (keptBelow sources actions enabled K i) → part ≡ drop (4 * getD actions i 0) enabled
-      → matrixOf n (setRow (getD sources i 0) (λ q. relationOf n g (getD sources i 0) q && inRow part q) (relationOf n g)) ≡ matrixOf n (keptBelow sources actions enabled K (i + 1))
-  kept-more i g part now lent = matrixOf-cong n _ _ (λ p q hp hq.
-      go p q hp hq (eqb p (getD sources i 0)) refl
-      ∙ ap (λ (b : Bool). K p q && b) (sym (all-more (λ j. eqb (getD sources j 0) p ⇒ actionSet enabled (getD actions j 0) q) i)))
-    where
-      shown : ℕ → ℕ → ℕ → Bool
-      shown p q j = eqb (getD sources j 0) p ⇒ actionSet enabled (getD actions j 0) q
+  all-more : (f : ℕ → Bool) (j : ℕ) → allBelow (j + 1) f ≡ allBelow j f && f j
+  unfolding allBelow
+  all-more f j = rw add-one
 
+  pub kept-more : (i : ℕ) (g part : List ℕ) → g ≡ matrixOf n (keptBelow t enabled K i) → part ≡ drop (4 * actionAt t i) enabled
+      → matrixOf n (setRow (sourceAt t i) (λ q. relationOf n g (sourceAt t i) q && inRow part q) (relationOf n g)) ≡ matrixOf n (keptBelow t enabled K (i + 1))
+  kept-more i g part now lent = matrixOf-cong n _ _ (λ p q hp hq.
+      go p q hp hq (eqb p (sourceAt t i)) refl
+      ∙ ap (λ (b : Bool). K p q && b) (sym (all-more (shown t enabled p q) i)))
+    where
       kept : (b c : Bool) {d : Bool} → d ≡ true → b && c ≡ b && (c && d)
       kept true true e = sym e
       kept true false e = refl
       kept false c e = refl
 
-      go : (p q : ℕ) → p < n → q < n → (b : Bool) → eqb p (getD sources i 0) ≡ b
-          → cond b (relationOf n g (getD sources i 0) q && inRow part q) (relationOf n g p q) ≡ K p q && (allBelow i (shown p q) && shown p q i)
+      go : (p q : ℕ) → p < n → q < n → (b : Bool) → eqb p (sourceAt t i) ≡ b
+          → cond b (relationOf n g (sourceAt t i) q && inRow part q) (relationOf n g p q) ≡ K p q && (allBelow i (shown t enabled p q) && shown t enabled p q i)
       go p q hp hq true e =
-          let same : p ≡ getD sources i 0 = eqb-true p (getD sources i 0) e in
+          let same : p ≡ sourceAt t i = eqb-true p (sourceAt t i) e in
           ap₂ _&&_
-          (ap (λ (x : ℕ). relationOf n g x q) (sym same) ∙ relation-of n (keptBelow sources actions enabled K i) now p q hp hq)
-          (ap (λ (l : List ℕ). inRow l q) lent ∙ part-set enabled (getD actions i 0) q ∙ sym (ap (λ (b : Bool). b ⇒ actionSet enabled (getD actions i 0) q) (eq-eqb (getD sources i 0) p (sym same))))
-          ∙ and-assoc (K p q) (allBelow i (shown p q)) (shown p q i)
+          (ap (λ (x : ℕ). relationOf n g x q) (sym same) ∙ relation-of n (keptBelow t enabled K i) now p q hp hq)
+          (ap (λ (l : List ℕ). inRow l q) lent ∙ part-in enabled (actionAt t i) q
+          ∙ sym (ap (λ (b : Bool). b ⇒ actionSet enabled (actionAt t i) q) (eq-eqb (sourceAt t i) p (sym same))))
+          ∙ and-assoc (K p q) (allBelow i (shown t enabled p q)) (shown t enabled p q i)
       go p q hp hq false e =
-          relation-of n (keptBelow sources actions enabled K i) now p q hp hq
-          ∙ kept (K p q) (allBelow i (shown p q)) (ap (λ (b : Bool). b ⇒ actionSet enabled (getD actions i 0) q) (ne-eqb (getD sources i 0) p (λ same. clash (eq-eqb p (getD sources i 0) (sym same)) e)))
+          relation-of n (keptBelow t enabled K i) now p q hp hq
+          ∙ kept (K p q) (allBelow i (shown t enabled p q))
+          (ap (λ (b : Bool). b ⇒ actionSet enabled (actionAt t i) q) (ne-eqb (sourceAt t i) p (λ same. clash (eq-eqb p (sourceAt t i) (sym same)) e)))
 
 -- ---- the sets of a table
 
-pub table-numbers : {n m k : ℕ} {sources actions targets : List ℕ} → Table n m k sources actions targets → Numbers k sources actions targets
-table-numbers tab = record {
-  size = tab .size;
-  source = λ i h. omega (arith, tab .source i h, tab .states);
-  action = λ i h. omega (arith, tab .action i h, tab .labels);
-  target = λ i h. omega (arith, tab .target i h, tab .states);
-}
+-- a key tells the state and the action
+key-test : (a q b p : ℕ) → q < 256 → p < 256 → eqb (256 * a + q) (256 * b + p) ≡ eqb q p && eqb b a
+key-test a q b p hq hp = test-ext _ _
+    (λ u. let e : 256 * a + q ≡ 256 * b + p = eqb→eq (256 * a + q) (256 * b + p) u in
+    let same : q ≡ p = omega arith in
+    let by : b ≡ a = omega arith in
+    and-iff (eqb q p) (eqb b a) .1 (eqb-of same, eqb-of by))
+    (λ u. let e = and-iff (eqb q p) (eqb b a) .0 u in
+    let same : 256 * a + q ≡ 256 * b + p = omega (arith, eqb→eq q p (e .0), eqb→eq b a (e .1)) in
+    eqb-of same)
 
-pub table-fits : {n m k : ℕ} {sources actions keys targets : List ℕ} → Table n m k sources actions targets → Keyed k sources actions keys → Fits k keys targets
-table-fits tab keyed = record {
-  size = tab .size;
-  key = λ i h. omega (arith, keyed .key i h, table-numbers tab .source i h, table-numbers tab .action i h);
-  target = table-numbers tab .target;
-}
+module _ {t keys targets : List ℕ} (ok : Formed t) (keyed : Keyed t keys targets) where
+  pub table-fits : Fits (countOf t) keys targets
+  table-fits = record {
+    size = ok .size;
+    key = λ i h. omega (arith, keyed .key i h, ok .source i h, ok .action i h, ok .states, ok .labels);
+    target = λ i h. omega (arith, keyed .target i h, ok .target i h, ok .states);
+  }
 
-module _ {n m k : ℕ} {sources actions targets : List ℕ} (tab : Table n m k sources actions targets) where
-  -- number 256 * a + q of the sets into X tells whether q has a transition by a into X
-  pub sources-into-is : (X : Set) (a q : ℕ) → q < 256 → sourcesInto k sources actions targets X (256 * a + q) ≡ into (tableLts n m k sources actions targets) a X q
-  unfolding sourcesInto
-  sources-into-is X a q h = test-ext _ _ to from
-    where
-      number : ℕ → ℕ
-      number i = 256 * getD actions i 0 + getD sources i 0
+  -- key 256 * a + q is one into X exactly if q has a transition by a into X
+  keys-into : (X : Set) (a q : ℕ) → q < 256 → keysInto (countOf t) keys targets X (256 * a + q) ≡ into (tableLts t) a X q
+  unfolding keysInto enters
+  keys-into X a q hq = any-cong (countOf t) _ _ (λ i h.
+      ap₂ (λ (x y : ℕ). eqb (256 * a + q) x && X y) (keyed .key i h) (keyed .target i h)
+      ∙ ap (λ (b : Bool). b && X (targetAt t i)) (key-test a q (actionAt t i) (sourceAt t i) hq (omega (arith, ok .source i h, ok .states)))
+      ∙ and-assoc (eqb q (sourceAt t i)) (eqb (actionAt t i) a) (X (targetAt t i)))
+      ∙ sym (into-table t a X ok q)
 
-      test : ℕ → Bool
-      test i = eqb (256 * a + q) (number i) && X (getD targets i 0)
-
-      to : T (anyBelow k test) → T (into (tableLts n m k sources actions targets) a X q)
-      to u =
-          let s = any-iff k test .0 u in
-          let i = s .0 in
-          let e = and-iff (eqb (256 * a + q) (number i)) (X (getD targets i 0)) .0 (s .2) in
-          let same : 256 * a + q ≡ 256 * getD actions i 0 + getD sources i 0 = eqb→eq (256 * a + q) (number i) (e .0) in
-          let low : getD sources i 0 < 256 = table-numbers tab .source i (s .1) in
-          into-from (table-formed n m k sources actions targets tab) a X q
-          (getD targets i 0, entry-leads n m k sources actions targets i (s .1) (omega arith) (omega arith) refl, e .1)
-
-      from : T (into (tableLts n m k sources actions targets) a X q) → T (anyBelow k test)
-      from u =
-          let s = into-to (tableLts n m k sources actions targets) a X q u in
-          let e = entry-of n m k sources actions targets q a (s .0) (s .1) in
-          let i = e .0 in
-          let same : 256 * a + q ≡ 256 * getD actions i 0 + getD sources i 0 = omega (arith, e .2, e .3) in
-          any-iff k test .1 (i, e .1, and-iff (eqb (256 * a + q) (number i)) (X (getD targets i 0)) .1 (equal same, subst⁻¹ (λ (t : ℕ). T (X t)) (e .4) (s .2)))
-
-  -- the part of action a in the row of these sets
-  pub action-set-into : (X : Set) {row : List ℕ} (a q : ℕ) → row ≡ rowOf 260 (sourcesInto k sources actions targets X) → a ≤ 64 → q < 256
-      → actionSet row a q ≡ into (tableLts n m k sources actions targets) a X q
-  action-set-into X a q e ha hq = action-set-of (sourcesInto k sources actions targets X) a q e ha hq ∙ sources-into-is X a q hq
+  -- the sets of the keys into X
+  pub sets-into : (X : Set) {row : List ℕ} → row ≡ rowOf 260 (keysInto (countOf t) keys targets X) → SetsInto t X row
+  sets-into X e a q ha hq = action-set-of (keysInto (countOf t) keys targets X) a q e ha hq ∙ keys-into X a q hq
 
   -- Rem, from the keys into N and into Y
-  pub remove-set-is : {keys : List ℕ} → Keyed k sources actions keys → (Y N : Set) {row : List ℕ} (a q : ℕ)
-      → row ≡ rowOf 260 (λ x. keysInto k keys targets N x && not (keysInto k keys targets Y x)) → a ≤ 64 → q < 256
-      → actionSet row a q ≡ remove (tableLts n m k sources actions targets) a Y N q
+  pub remove-set-is : (Y N : Set) {row : List ℕ} (a q : ℕ)
+      → row ≡ rowOf 260 (λ x. keysInto (countOf t) keys targets N x && not (keysInto (countOf t) keys targets Y x)) → a ≤ 64 → q < 256
+      → actionSet row a q ≡ remove (tableLts t) a Y N q
   unfolding remove
-  remove-set-is {keys} keyed Y N a q e ha hq =
-      action-set-of (λ x. keysInto k keys targets N x && not (keysInto k keys targets Y x)) a q e ha hq
-      ∙ ap₂ (λ (x y : Bool). x && not y) (at N) (at Y)
-    where
-      at : (X : Set) → keysInto k keys targets X (256 * a + q) ≡ into (tableLts n m k sources actions targets) a X q
-      at X = into-sources k sources actions keys targets keyed X (256 * a + q) ∙ sources-into-is X a q hq
+  remove-set-is Y N a q e ha hq =
+      action-set-of (λ x. keysInto (countOf t) keys targets N x && not (keysInto (countOf t) keys targets Y x)) a q e ha hq
+      ∙ ap₂ (λ (x y : Bool). x && not y) (keys-into N a q hq) (keys-into Y a q hq)
 
-  -- K at the beginning, from the set of the states with a transition by each action
-  pub initial-is : (preorder : Rel) {enabled : List ℕ} → enabled ≡ rowOf 260 (sourcesInto k sources actions targets (λ t. true))
-      → matrixOf n (keptBelow sources actions enabled preorder k) ≡ matrixOf n (initial (tableLts n m k sources actions targets) preorder .related)
-  initial-is preorder {enabled} e =
-      matrixOf-cong n (keptBelow sources actions enabled preorder k) (initial (tableLts n m k sources actions targets) preorder .related) (λ p q hp hq.
-      ap (λ (b : Bool). preorder p q && b)
-      (all-cong k _ _ (λ i h. ap (λ (b : Bool). eqb (getD sources i 0) p ⇒ b)
-      (action-set-into (λ t. true) (getD actions i 0) q e (table-numbers tab .action i h) (omega (arith, tab .states))))
-      ∙ has-actions tab p q)
-      ∙ sym (initial-at n m k sources actions targets preorder p q hp hq))
+-- K at the beginning, from the set of the states with a transition by each action
+pub initial-is : {t : List ℕ} → Formed t → (start : Rel) (enabled : List ℕ) → SetsInto t (λ q. true) enabled
+    → matrixOf (statesOf t) (keptBelow t enabled start (countOf t)) ≡ matrixOf (statesOf t) (initial (tableLts t) start .related)
+initial-is {t} ok start enabled able = matrixOf-cong (statesOf t) (keptBelow t enabled start (countOf t)) (initial (tableLts t) start .related) (λ p q hp hq.
+    ap (λ (b : Bool). start p q && b)
+    (all-cong (countOf t) _ _ (λ i h. ap (λ (b : Bool). eqb (sourceAt t i) p ⇒ b)
+    (able (actionAt t i) q (omega (arith, ok .action i h, ok .labels)) (omega (arith, ok .states))))
+    ∙ has-actions ok p q)
+    ∙ sym (initial-at t start p q hp hq))

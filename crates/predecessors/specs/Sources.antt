@@ -1,4 +1,5 @@
--- Sets of states for each action, in one row of bits: state q of action a is number 256 * a + q.
+-- The transitions of a table by key and target, and the chains through them. The key of a transition from q by a is 256 * a + q, so that a
+-- row of keys holds a set of states for each action.
 use Prim.Native.Nat.{ℕ, zero, suc, _+_, _*_, _≤_, _<_}
 use mathlib.Core.Path.{_≡_}
 use mathlib.Core.Bool.{cond, _&&_}
@@ -6,23 +7,18 @@ use mathlib.Core.List.{List}
 use lib.Dec.{eqb}
 use lib.ListN.{getD}
 use Rattle.lts.specs.Bounded.{anyBelow}
-use Rattle.lts.specs.System.{Set}
-use Rattle.relation.specs.Matrix.{inRow}
+use Rattle.lts.specs.System.{Set, into}
+use Rattle.transitions.specs.Table.{countOf, sourceAt, actionAt, targetAt, tableLts}
+use Rattle.transitions.specs.Filling.{actionSet}
 
--- the numbers of a table fit bit rows of 256 states and 64 actions
-pub record Numbers (k : ℕ) (sources actions targets : List ℕ) : Type 0 where
-  pub size : k ≤ 1024
-  pub source : (i : ℕ) → i < k → getD sources i 0 < 256
-  pub action : (i : ℕ) → i < k → getD actions i 0 ≤ 64
-  pub target : (i : ℕ) → i < k → getD targets i 0 < 256
+-- the key and the target of each transition of a table
+pub record Keyed (t keys targets : List ℕ) : Type 0 where
+  pub key : (i : ℕ) → i < countOf t → getD keys i 0 ≡ 256 * actionAt t i + sourceAt t i
+  pub target : (i : ℕ) → i < countOf t → getD targets i 0 ≡ targetAt t i
 
--- x is 256 * a + q for a transition of the table from q by a into X
-unfoldable pub sourcesInto : ℕ → List ℕ → List ℕ → List ℕ → Set → Set
-sourcesInto k sources actions targets X x = anyBelow k (λ i. eqb x (256 * getD actions i 0 + getD sources i 0) && X (getD targets i 0))
-
--- the key of each transition: 256 * a + q for a transition from q by a
-pub record Keyed (k : ℕ) (sources actions keys : List ℕ) : Type 0 where
-  pub key : (i : ℕ) → i < k → getD keys i 0 ≡ 256 * getD actions i 0 + getD sources i 0
+-- the row holds, for each action, the states that have a transition by it into X
+abbrev pub SetsInto : List ℕ → Set → List ℕ → Type 0
+SetsInto t X sets = (a q : ℕ) → a ≤ 64 → q < 256 → actionSet sets a q ≡ into (tableLts t) a X q
 
 -- x is the key of a transition into X
 unfoldable pub keysInto : ℕ → List ℕ → List ℕ → Set → Set
@@ -57,7 +53,3 @@ pub record Chains (k : ℕ) (keys targets head link first next : List ℕ) : Typ
   pub fits : Fits k keys targets
   pub entering : Linked 256 k targets head link
   pub leaving : Linked 16640 k keys first next
-
--- the states of action a in such a row of sets
-unfoldable pub actionSet : List ℕ → ℕ → Set
-actionSet sets a q = inRow sets (256 * a + q)

@@ -8,20 +8,22 @@ ghost use lib.Dec.{eqb};
 ghost use lib.ListN.{length, getD};
 ghost use Rattle.lts.specs.Bounded.{_⇒_, allBelow};
 ghost use Rattle.lts.specs.Refinement.{initial};
-ghost use Rattle.lts.specs.Table.{tableLts, Table};
-ghost use Rattle.relation.specs.Matrix.{inRow, rowOf, rowWords, relationOf, matrixOf, Matrix};
-ghost use Rattle.predecessors.specs.Sources.{Keyed, Fits, Linked, IntoStates, OfKeys, Chains, sourcesInto, keysInto, actionSet};
+ghost use Rattle.rows.specs.Rows.{inRow, rowOf, rowWords};
+ghost use Rattle.transitions.specs.Table.{statesOf, countOf, sourceAt, actionAt, tableLts, Formed};
+ghost use Rattle.transitions.specs.Filling.{actionSet};
+ghost use Rattle.relation.specs.Matrix.{relationOf, matrixOf, Matrix};
+ghost use Rattle.predecessors.specs.Sources.{Keyed, SetsInto, Fits, Linked, IntoStates, OfKeys, Chains, keysInto};
 
-// The key of each transition.
-pub fn write_keys(k: usize, sources: &[u16; 1024], actions: &[u8; 1024], keys: &mut [u16; 1024])
-    requires { ⌜ (k ≤ 1024) × (length (now keys) ≡ 1024) ⌝ }
-    requires { ⌜ ((i : ℕ) → i < k → getD (now sources) i 0 < 256) ⌝ }
-    requires { ⌜ ((i : ℕ) → i < k → getD (now actions) i 0 ≤ 64) ⌝ }
-    ensures { λ _. ⌜ Keyed k (now (sources .entry)) (now (actions .entry)) (now (keys .exit)) ⌝ }
+// The key and the target of each transition.
+pub fn write_keys(table: &transitions::Table, keys: &mut [u16; 1024], targets: &mut [u16; 1024])
+    requires { ⌜ Formed (now table) × (length (now keys) ≡ 1024) × (length (now targets) ≡ 1024) ⌝ }
+    ensures { λ _. ⌜ Keyed (now (table .entry)) (now (keys .exit)) (now (targets .exit)) ⌝ }
 {
+    let k = transitions::count(table);
     let mut i = 0;
     while i < k {
-        keys[i] = (256 * (actions[i] as usize) + (sources[i] as usize)) as u16;
+        keys[i] = (256 * transitions::action(table, i) + transitions::source(table, i)) as u16;
+        targets[i] = transitions::target(table, i) as u16;
         i += 1;
     }
 }
@@ -52,12 +54,13 @@ fn add_entering(
     out: &mut [u64],
 )
     requires { ⌜ IntoStates (now keys) (now head) (now link) × (t < 256) × (length (now out) ≡ 260) ⌝ }
-    ensures { λ _. ⌜ ((k : ℕ) (targets : List ℕ) → Fits k (now (keys .entry)) targets → Linked 256 k targets (now (head .entry)) (now (link .entry)) → now (out .exit) ≡ rowOf 260 (λ x. inRow (now (out .entry)) x || keysInto k (now (keys .entry)) targets (λ q. eqb q t) x)) ⌝ }
+    ensures { λ _. ⌜ ((k : ℕ) (targets : List ℕ) → Fits k (now (keys .entry)) targets → Linked 256 k targets (now (head .entry)) (now (link .entry))
+        → now (out .exit) ≡ rowOf 260 (λ x. inRow (now (out .entry)) x || keysInto k (now (keys .entry)) targets (λ q. eqb q t) x)) ⌝ }
 {
     let mut i = head[t] as usize;
     while 0 < i {
         let j = i - 1;
-        relation::insert(out, keys[j] as usize);
+        rows::insert(out, keys[j] as usize);
         i = link[j] as usize;
     }
 }
@@ -71,19 +74,21 @@ pub fn add_sources(
     out: &mut [u64],
 )
     requires { ⌜ IntoStates (now keys) (now head) (now link) × (length (now out) ≡ 260) ⌝ }
-    ensures { λ _. ⌜ ((k : ℕ) (targets : List ℕ) → Fits k (now (keys .entry)) targets → Linked 256 k targets (now (head .entry)) (now (link .entry)) → now (out .exit) ≡ rowOf 260 (λ x. inRow (now (out .entry)) x || keysInto k (now (keys .entry)) targets (inRow (now (set .entry))) x)) ⌝ }
+    ensures { λ _. ⌜ ((k : ℕ) (targets : List ℕ) → Fits k (now (keys .entry)) targets → Linked 256 k targets (now (head .entry)) (now (link .entry))
+        → now (out .exit) ≡ rowOf 260 (λ x. inRow (now (out .entry)) x || keysInto k (now (keys .entry)) targets (inRow (now (set .entry))) x)) ⌝ }
 {
-    let mut t = relation::next_state(set, 4, 0);
+    let mut t = rows::next_state(set, 4, 0);
     while t < 256 {
         add_entering(keys, head, link, t, out);
-        t = relation::next_state(set, 4, t + 1);
+        t = rows::next_state(set, 4, t + 1);
     }
 }
 
 // The keys of all transitions.
 pub fn enabled_sources(keys: &[u16; 1024], head: &[u16; 256], link: &[u16; 1024]) -> [u64; 260]
     requires { ⌜ IntoStates (now keys) (now head) (now link) ⌝ }
-    ensures { λ r. ⌜ ((k : ℕ) (targets : List ℕ) → Fits k (now (keys .entry)) targets → Linked 256 k targets (now (head .entry)) (now (link .entry)) → r ≡ rowOf 260 (keysInto k (now (keys .entry)) targets (λ t. true))) ⌝ }
+    ensures { λ r. ⌜ ((k : ℕ) (targets : List ℕ) → Fits k (now (keys .entry)) targets → Linked 256 k targets (now (head .entry)) (now (link .entry))
+        → r ≡ rowOf 260 (keysInto k (now (keys .entry)) targets (λ t. true))) ⌝ }
 {
     let all = [18446744073709551615u64; 4];
     let mut out = [0u64; 260];
@@ -100,12 +105,13 @@ fn enters(
     set: &[u64; 4],
 ) -> bool
     requires { ⌜ OfKeys (now targets) (now first) (now next) × (x < 16640) ⌝ }
-    ensures { λ r. ⌜ ((k : ℕ) (keys : List ℕ) → Fits k keys (now (targets .entry)) → Linked 16640 k keys (now (first .entry)) (now (next .entry)) → r ≡ keysInto k keys (now (targets .entry)) (inRow (now (set .entry))) x) ⌝ }
+    ensures { λ r. ⌜ ((k : ℕ) (keys : List ℕ) → Fits k keys (now (targets .entry)) → Linked 16640 k keys (now (first .entry)) (now (next .entry))
+        → r ≡ keysInto k keys (now (targets .entry)) (inRow (now (set .entry))) x) ⌝ }
 {
     let mut i = first[x] as usize;
     while 0 < i {
         let j = i - 1;
-        if relation::contains(set, targets[j] as usize) {
+        if rows::contains(set, targets[j] as usize) {
             return true;
         }
         i = next[j] as usize;
@@ -125,15 +131,19 @@ fn add_removed_at(
     inside: &[u64; 4],
     out: &mut [u64],
 )
-    requires { ⌜ ((k : ℕ) × Chains k (now keys) (now targets) (now head) (now link) (now first) (now next)) × (t < 256) × (length (now out) ≡ 260) ⌝ }
-    ensures { λ _. ⌜ ((k : ℕ) → Chains k (now (keys .entry)) (now (targets .entry)) (now (head .entry)) (now (link .entry)) (now (first .entry)) (now (next .entry)) → now (out .exit) ≡ rowOf 260 (λ x. inRow (now (out .entry)) x || (keysInto k (now (keys .entry)) (now (targets .entry)) (λ q. eqb q t) x && not (keysInto k (now (keys .entry)) (now (targets .entry)) (inRow (now (inside .entry))) x)))) ⌝ }
+    requires { ⌜ ((k : ℕ) × Chains k (now keys) (now targets) (now head) (now link) (now first) (now next)) × (t < 256)
+        × (length (now out) ≡ 260) ⌝ }
+    ensures { λ _. ⌜ ((k : ℕ) → Chains k (now (keys .entry)) (now (targets .entry)) (now (head .entry)) (now (link .entry))
+        (now (first .entry)) (now (next .entry)) → now (out .exit) ≡ rowOf 260 (λ x. inRow (now (out .entry)) x
+        || (keysInto k (now (keys .entry)) (now (targets .entry)) (λ q. eqb q t) x
+        && not (keysInto k (now (keys .entry)) (now (targets .entry)) (inRow (now (inside .entry))) x)))) ⌝ }
 {
     let mut i = head[t] as usize;
     while 0 < i {
         let j = i - 1;
         let x = keys[j] as usize;
         if !enters(targets, first, next, x, inside) {
-            relation::insert(out, x);
+            rows::insert(out, x);
         }
         i = link[j] as usize;
     }
@@ -152,12 +162,15 @@ pub fn add_removed(
     out: &mut [u64],
 )
     requires { ⌜ ((k : ℕ) × Chains k (now keys) (now targets) (now head) (now link) (now first) (now next)) × (length (now out) ≡ 260) ⌝ }
-    ensures { λ _. ⌜ ((k : ℕ) → Chains k (now (keys .entry)) (now (targets .entry)) (now (head .entry)) (now (link .entry)) (now (first .entry)) (now (next .entry)) → now (out .exit) ≡ rowOf 260 (λ x. inRow (now (out .entry)) x || (keysInto k (now (keys .entry)) (now (targets .entry)) (inRow (now (outside .entry))) x && not (keysInto k (now (keys .entry)) (now (targets .entry)) (inRow (now (inside .entry))) x)))) ⌝ }
+    ensures { λ _. ⌜ ((k : ℕ) → Chains k (now (keys .entry)) (now (targets .entry)) (now (head .entry)) (now (link .entry))
+        (now (first .entry)) (now (next .entry)) → now (out .exit) ≡ rowOf 260 (λ x. inRow (now (out .entry)) x
+        || (keysInto k (now (keys .entry)) (now (targets .entry)) (inRow (now (outside .entry))) x
+        && not (keysInto k (now (keys .entry)) (now (targets .entry)) (inRow (now (inside .entry))) x)))) ⌝ }
 {
-    let mut t = relation::next_state(outside, 4, 0);
+    let mut t = rows::next_state(outside, 4, 0);
     while t < 256 {
         add_removed_at(keys, targets, head, link, first, next, t, inside, out);
-        t = relation::next_state(outside, 4, t + 1);
+        t = rows::next_state(outside, 4, t + 1);
     }
 }
 
@@ -167,48 +180,39 @@ pub fn action_set(sets: &[u64; 260], a: usize) -> [u64; 4]
     ensures { λ r. ⌜ r ≡ rowOf 4 (actionSet (now (sets .entry)) a) ⌝ }
 {
     let mut out = [0u64; 4];
-    relation::row_copy(&mut out, relation::action_part(sets, a), 4);
+    rows::row_copy(&mut out, transitions::action_part(sets, a), 4);
     out
 }
 
 // Takes out of each state's row what lacks a transition by an action that the state has one by.
-fn keep_enabled(
-    n: usize,
-    k: usize,
-    sources: &[u16; 1024],
-    actions: &[u8; 1024],
-    enabled: &[u64; 260],
-    related: &mut [u64],
-)
-    requires { ⌜ (n ≤ 256) × (k ≤ 1024) × Matrix n (now related) ⌝ }
-    requires { ⌜ ((i : ℕ) → i < k → getD (now sources) i 0 < n) ⌝ }
-    requires { ⌜ ((i : ℕ) → i < k → getD (now actions) i 0 ≤ 64) ⌝ }
-    ensures { λ _. ⌜ now (related .exit) ≡ matrixOf n (λ p q. relationOf n (now (related .entry)) p q && allBelow k (λ i. eqb (getD (now (sources .entry)) i 0) p ⇒ actionSet (now (enabled .entry)) (getD (now (actions .entry)) i 0) q)) ⌝ }
+fn keep_enabled(table: &transitions::Table, enabled: &[u64; 260], related: &mut [u64])
+    requires { ⌜ Formed (now table) × Matrix (statesOf (now table)) (now related) ⌝ }
+    ensures { λ _. ⌜ (let t = now (table .entry) in
+        now (related .exit) ≡ matrixOf (statesOf t) (λ p q. relationOf (statesOf t) (now (related .entry)) p q
+        && allBelow (countOf t) (λ i. eqb (sourceAt t i) p ⇒ actionSet (now (enabled .entry)) (actionAt t i) q))) ⌝ }
 {
+    let n = transitions::states(table);
+    let k = transitions::count(table);
     let mut i = 0;
     while i < k {
-        let p = sources[i] as usize;
-        let a = actions[i] as usize;
-        relation::keep_states(related, n, p, relation::action_part(enabled, a));
+        let able = transitions::action_part(enabled, transitions::action(table, i));
+        relation::keep_states(related, n, transitions::source(table, i), able);
         i += 1;
     }
 }
 
 // K at the beginning, from the states with a transition by each action.
 pub fn write_initial(
-    n: usize,
-    k: usize,
-    sources: &[u16; 1024],
-    actions: &[u8; 1024],
+    table: &transitions::Table,
     enabled: &[u64; 260],
     start: &[u64],
     related: &mut [u64],
 )
-    requires { ⌜ (n ≤ 256) × (k ≤ 1024) × Matrix n (now start) × (length (now related) ≡ n * rowWords n) ⌝ }
-    requires { ⌜ ((i : ℕ) → i < k → getD (now sources) i 0 < n) ⌝ }
-    requires { ⌜ ((i : ℕ) → i < k → getD (now actions) i 0 ≤ 64) ⌝ }
-    ensures { λ _. ⌜ ((m : ℕ) (targets : List ℕ) → Table n m k (now (sources .entry)) (now (actions .entry)) targets → now (enabled .entry) ≡ rowOf 260 (sourcesInto k (now (sources .entry)) (now (actions .entry)) targets (λ t. true)) → now (related .exit) ≡ matrixOf n (initial (tableLts n m k (now (sources .entry)) (now (actions .entry)) targets) (relationOf n (now (start .entry))) .related)) ⌝ }
+    requires { ⌜ Formed (now table) × SetsInto (now table) (λ t. true) (now enabled) × Matrix (statesOf (now table)) (now start) ⌝ }
+    requires { ⌜ length (now related) ≡ statesOf (now table) * rowWords (statesOf (now table)) ⌝ }
+    ensures { λ _. ⌜ (let t = now (table .entry) in
+        now (related .exit) ≡ matrixOf (statesOf t) (initial (tableLts t) (relationOf (statesOf t) (now (start .entry))) .related)) ⌝ }
 {
     relation::copy_matrix(related, start);
-    keep_enabled(n, k, sources, actions, enabled, related);
+    keep_enabled(table, enabled, related);
 }

@@ -13,12 +13,12 @@ use Rattle.lts.specs.System.{Set, Rel, Lts, into}
 use Rattle.lts.specs.Refinement.{block, remove, refine, eachAction}
 use Rattle.lts.proofs.Bounded.{any-iff, test-ext}
 use Rattle.lts.proofs.Refine.{Blocks}
-use Rattle.relation.specs.Matrix.{inRow, rowOf, relationOf, matrixOf}
-use Rattle.relation.proofs.Bounded.{any-no, any-cong}
+use Rattle.rows.specs.Rows.{inRow, rowOf}
+use Rattle.relation.specs.Matrix.{relationOf, matrixOf}
+use Rattle.lts.proofs.Below.{any-no, any-cong}
 use Rattle.relation.proofs.Matrices.{relation-of, matrixOf-cong}
-use Rattle.relation.proofs.Rows.{inRow-of}
-use Rattle.predecessors.proofs.Laws.{part-set}
-use Rattle.predecessors.specs.Sources.{actionSet}
+use Rattle.rows.proofs.Rows.{inRow-of, part-in}
+use Rattle.transitions.specs.Filling.{actionSet}
 use Rattle.splitting.specs.Split.{splitRelated, splitBlocks, pruneRelated, refinedRelated}
 use Rattle.splitting.proofs.Laws.{split-cong, split-blocks-cong, refined-cong, refined-is, refined-blocks-is}
 use Rattle.refinement.specs.Engine.{Refined, actionsTo, without, HitRows}
@@ -85,7 +85,7 @@ module _ (n : ℕ) (removed members : List ℕ) (a : ℕ) (K P : Rel) (small : n
           hit-in : (g : ℕ) → g < n → inRow hit g ≡ anyBelow n (λ x. splitBlocks Rem P g x && Hits x)
           hit-in g h =
               rows g h
-              ∙ ap₂ (λ (s t : Bool). s && not t) (any-cong n _ _ (λ x _. ap (λ (b : Bool). P g x && b) (ap (λ (l : List ℕ). inRow l x) p ∙ part-set members a x))) (rem-in g h)
+              ∙ ap₂ (λ (s t : Bool). s && not t) (any-cong n _ _ (λ x _. ap (λ (b : Bool). P g x && b) (ap (λ (l : List ℕ). inRow l x) p ∙ part-in members a x))) (rem-in g h)
               ∙ hit-split g
 
     -- where Rem is empty nothing changes

@@ -1,21 +1,20 @@
 -- The engine's loop: what the matrices hold is what the run of the refinement rule has reached.
-use Prim.Native.Nat.{ℕ, suc, _*_, _%_, _≤_, _<_}
+use Prim.Native.Nat.{ℕ, suc, _*_, _%_, _<_}
 use native.Mathlib.Nat.{mod-lt}
-use mathlib.Core.Path.{_≡_, refl, sym, _∙_, ap, ap₂, subst, fun-ext}
-use mathlib.Core.Logic.{_↔_}
-use mathlib.Core.Bool.{Bool, true, false, not, _&&_}
+use mathlib.Core.Path.{_≡_, sym, _∙_, ap, ap₂, subst, fun-ext}
+use mathlib.Core.Bool.{Bool, true, _&&_}
 use mathlib.Core.List.{List}
 use lib.Dec.{T}
 use lib.ListN.{length, getD}
 use Rattle.lts.specs.Bounded.{passing, restrict}
-use Rattle.lts.specs.System.{Set, Rel, Lts, WellFormed, anyState}
+use Rattle.lts.specs.System.{Rel, Lts, WellFormed, anyState}
 use Rattle.lts.specs.Refinement.{Relations, initial, block, pending, stepOf, chosen, step, coarsest}
-use Rattle.lts.proofs.Bounded.{test-ext, any-iff, restrict-iff, restrict-at, restrict-same}
+use Rattle.lts.proofs.Bounded.{test-ext, restrict-iff, restrict-at, restrict-same}
 use Rattle.lts.proofs.Count.{passing-at, passing-some}
 use Rattle.lts.proofs.System.{Preorder}
-use Rattle.lts.proofs.Step.{On, Inv, during, step-inv, viewed-shrinks}
+use Rattle.lts.proofs.Step.{Inv, during, step-inv, viewed-shrinks}
 use Rattle.lts.proofs.Run.{Reached, begin, next, reached-inv, reached-below, reached-end}
-use Rattle.relation.specs.Matrix.{relationOf, matrixOf, Matrix}
+use Rattle.relation.specs.Matrix.{relationOf, matrixOf}
 use Rattle.relation.proofs.Matrices.{relation-matrix, relation-of, matrixOf-cong}
 use Rattle.refinement.specs.Engine.{heldBy, relationsOf, Steady, State}
 
@@ -57,38 +56,38 @@ pub block-held : (n : ℕ) (g : List ℕ) (p q : ℕ) → p < n → q < n → bl
 unfolding block
 block-held n g p q l m = ap₂ (λ (a b : Bool). a && b) (sym (held-at n g p q l m)) (sym (held-at n g q p m l))
 
-module _ (L : Lts) (wf : WellFormed L) (preorder : Rel) (pre : Preorder L preorder) (schedule : List ℕ) where
+module _ (L : Lts) (wf : WellFormed L) (start : Rel) (pre : Preorder L start) (schedule : List ℕ) where
   abbrev n : ℕ
   n = L .states
 
   -- the beginning
-  pub state-begin : (related viewed blocks : List ℕ) → related ≡ matrixOf n (initial L preorder .related) → viewed ≡ matrixOf n (λ p q. true)
-      → blocks ≡ matrixOf n (block (relationOf n related)) → State L preorder schedule 0 related viewed blocks
+  pub state-begin : (related viewed blocks : List ℕ) → related ≡ matrixOf n (initial L start .related) → viewed ≡ matrixOf n (λ p q. true)
+      → blocks ≡ matrixOf n (block (relationOf n related)) → State L start schedule 0 related viewed blocks
   unfolding initial
   state-begin related viewed blocks e d b = record {
-    related-is = held-again n (initial L preorder .related) related e;
+    related-is = held-again n (initial L start .related) related e;
     viewed-is = held-again n (λ p q. true) viewed d;
     blocks-is = b ∙ matrixOf-cong n (block (relationOf n related)) (block (heldBy n related)) (block-held n related);
-    reached = subst (Reached L preorder schedule 0) (sym held) begin;
+    reached = subst (Reached L start schedule 0) (sym held) begin;
   }
     where
       all : viewed ≡ matrixOf n (restrict n (λ p q. true))
       all = d ∙ matrixOf-cong n (λ p q. true) (restrict n (λ p q. true)) (λ p q l m. sym (restrict-at n (λ p q. true) p q l m))
 
-      held : relationsOf n related viewed ≡ initial L preorder
-      held = relations-of-matrices n (initial L preorder) related viewed e all
+      held : relationsOf n related viewed ≡ initial L start
+      held = relations-of-matrices n (initial L start) related viewed e all
           (λ p q t. let r = restrict-iff n _ p q .0 t in (r .0, r .1))
           (λ p q t. let r = restrict-iff n (λ p q. true) p q .0 t in (r .0, r .1))
 
-  module _ (steps : ℕ) (related viewed blocks : List ℕ) (st : State L preorder schedule steps related viewed blocks) where
+  module _ (steps : ℕ) (related viewed blocks : List ℕ) (st : State L start schedule steps related viewed blocks) where
     abbrev s : Relations
     s = relationsOf n related viewed
 
-    inv : Inv L preorder s
-    inv = reached-inv L wf preorder pre schedule steps s (st .reached)
+    inv : Inv L start s
+    inv = reached-inv L wf start pre schedule steps s (st .reached)
 
     pub state-steady : (b : ℕ) → Steady L b s
-    state-steady b = record { during = during L wf preorder s inv b }
+    state-steady b = record { during = during L wf start s inv b }
 
     pub chosen-below : (e : ℕ) → T (anyState L (pending L s)) → chosen L e s < n
     unfolding chosen anyState
@@ -100,27 +99,27 @@ module _ (L : Lts) (wf : WellFormed L) (preorder : Rel) (pre : Preorder L preord
         → related′ ≡ matrixOf n (stepOf L b s .related)
         → viewed′ ≡ matrixOf n (stepOf L b s .viewed)
         → blocks′ ≡ matrixOf n (block (stepOf L b s .related))
-        → State L preorder schedule (suc steps) related′ viewed′ blocks′
+        → State L start schedule (suc steps) related′ viewed′ blocks′
     unfolding step relationsOf
     state-next b related′ viewed′ blocks′ t c e d k = record {
       related-is = held-again n (stepOf L b s .related) related′ e;
       viewed-is = held-again n (stepOf L b s .viewed) viewed′ d;
       blocks-is = k ∙ ap (λ (R : Rel). matrixOf n (block R)) (ap (λ (x : Relations). x .related) (sym held));
-      reached = subst (Reached L preorder schedule (suc steps)) (ap (λ (x : ℕ). stepOf L x s) (sym c) ∙ sym held) (next (st .reached) t);
+      reached = subst (Reached L start schedule (suc steps)) (ap (λ (x : ℕ). stepOf L x s) (sym c) ∙ sym held) (next (st .reached) t);
     }
       where
-        inv′ : Inv L preorder (stepOf L b s)
-        inv′ = step-inv L wf preorder s inv b
+        inv′ : Inv L start (stepOf L b s)
+        inv′ = step-inv L wf start s inv b
 
         held : relationsOf n related′ viewed′ ≡ stepOf L b s
         held = relations-of-matrices n (stepOf L b s) related′ viewed′ e d
             (λ p q t. (inv′ .blocks .source t, inv′ .blocks .target t))
-            (λ p q t. held-below n viewed p q (viewed-shrinks L wf preorder s inv b p q t))
+            (λ p q t. held-below n viewed p q (viewed-shrinks L wf start s inv b p q t))
 
     -- nothing pending: the run is at its end
     pub state-end : (T (anyState L (pending L s)) → ⊥)
-        → coarsest L preorder schedule ≡ record { final = s; steps = steps }
-    state-end f = reached-end L wf preorder pre schedule steps s (st .reached) f
+        → coarsest L start schedule ≡ record { final = s; steps = steps }
+    state-end f = reached-end L wf start pre schedule steps s (st .reached) f
 
     pub state-below : T (anyState L (pending L s)) → steps < n * n
-    state-below t = reached-below L wf preorder pre schedule steps s (st .reached) t
+    state-below t = reached-below L wf start pre schedule steps s (st .reached) t

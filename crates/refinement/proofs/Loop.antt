@@ -4,24 +4,25 @@ use native.Mathlib.Nat.{mul-le-mul}
 use native.Mathlib.Numerals.{add-one}
 use native.Mathlib.Omega.{arith}
 use mathlib.Core.Path.{_≡_, refl, sym, _∙_, ap, ap₂, subst}
-use mathlib.Core.Bool.{Bool, true, false, cond, _&&_, true≢false}
+use mathlib.Core.Bool.{Bool, true, false, _&&_, true≢false}
 use mathlib.Core.List.{List}
-use lib.Dec.{T, ltb}
+use lib.Dec.{T}
 use lib.ListN.{length, getD, replicate}
 use Rattle.lts.specs.Bounded.{passing}
-use Rattle.lts.specs.System.{Set, Rel, Lts, WellFormed, anyState}
+use Rattle.lts.specs.System.{Rel, Lts, WellFormed, anyState}
 use Rattle.lts.specs.Refinement as Refinement
 use Rattle.lts.specs.Refinement.{Relations, Run, initial, block, eachAction, stepOf, chosen, coarsest}
-use Rattle.lts.specs.Table.{tableLts, Table}
 use Rattle.lts.proofs.Bounded.{test-ext}
 use Rattle.lts.proofs.System.{Preorder}
 use Rattle.lts.proofs.Step.{block-iff}
 use Rattle.lts.proofs.Run.{initial-inv}
-use Rattle.lts.proofs.Table.{table-formed}
-use Rattle.relation.specs.Matrix.{inRow, rowOf, statesBelow, relationOf, matrixOf, Matrix}
-use Rattle.relation.proofs.Bounded.{T-true, length-listBelow}
-use Rattle.relation.proofs.Rows.{inRow-ones}
+use Rattle.rows.specs.Rows.{inRow, rowOf, statesBelow}
+use Rattle.relation.specs.Matrix.{relationOf, matrixOf, Matrix}
+use Rattle.lts.proofs.Below.{T-true, length-listBelow}
+use Rattle.rows.proofs.Rows.{inRow-ones}
 use Rattle.relation.proofs.Matrices.{relation-of, formed-of, matrixOf-cong}
+use Rattle.transitions.specs.Table.{statesOf, tableLts, Formed}
+use Rattle.transitions.proofs.Entries.{table-formed}
 use Rattle.partition.specs.Pending.{Classes}
 use Rattle.partition.proofs.Laws as partition
 use Rattle.splitting.specs.Split.{Parted}
@@ -29,39 +30,49 @@ use Rattle.refinement.specs.Engine.{heldBy, relationsOf, Steady, State, 
 use Rattle.refinement.proofs.Laws.{held-at, block-held, state-begin, state-steady, state-next, state-end, state-below, chosen-below}
 use Rattle.refinement.proofs.Pending.{pendingAt}
 
-pub record At (n m k : ℕ) (sources actions targets start schedule : List ℕ) (steps : ℕ) (related viewed blocks shared pending : List ℕ) (c : ℕ) : Type 0 where
-  pub state : State (tableLts n m k sources actions targets) (relationOf n start) schedule steps related viewed blocks
+-- where the loop stands at its test, with n states: what was reached, the pending representatives, their number, and the states that share a block
+pub record At (t : List ℕ) (n : ℕ) (start schedule : List ℕ) (steps : ℕ) (related viewed blocks shared pending : List ℕ) (c : ℕ) : Type 0 where
+  pub state : State (tableLts t) (relationOf (statesOf t) start) schedule steps related viewed blocks
   pub pending-is : pending ≡ rowOf 4 (statesBelow n (pendingAt n related viewed blocks))
   pub count : c ≡ length (passing n (inRow pending))
   pub parts : Parted n (relationOf n blocks) (inRow shared)
   pub long : length shared ≡ 4
 
-pub pending-long : {n m k : ℕ} {sources actions targets start schedule : List ℕ} {steps : ℕ} {related viewed blocks shared pending : List ℕ} {c : ℕ}
-    → At n m k sources actions targets start schedule steps related viewed blocks shared pending c → length pending ≡ 4
+pub pending-long : {t : List ℕ} {n : ℕ} {start schedule : List ℕ} {steps : ℕ} {related viewed blocks shared pending : List ℕ} {c : ℕ}
+    → At t n start schedule steps related viewed blocks shared pending c → length pending ≡ 4
 pending-long at = ap length (at .pending-is) ∙ length-listBelow 4 _
+
+-- the same, of an equal number of states
+pub at-same : {t : List ℕ} {n m : ℕ} {start schedule : List ℕ} {steps : ℕ} {related viewed blocks shared pending : List ℕ} {c : ℕ} → n ≡ m
+    → At t n start schedule steps related viewed blocks shared pending c → At t m start schedule steps related viewed blocks shared pending c
+at-same {t} {start = start} {schedule} {steps} {related} {viewed} {blocks} {shared} {pending} {c} e =
+    subst (λ (n : ℕ). At t n start schedule steps related viewed blocks shared pending c) e
 
 -- a step fewer than n * n is a number
 pub small-steps : (n steps : ℕ) → n ≤ 256 → steps < n * n → steps < 65536
 small-steps n steps l h = let s = mul-le-mul l l in omega (arith, s, h)
 
-module _ (n m k : ℕ) (sources actions targets : List ℕ) (tab : Table n m k sources actions targets) (start : List ℕ) (st : Start n start) (schedule : List ℕ) where
-  abbrev L : Lts
-  L = tableLts n m k sources actions targets
+module _ {t start : List ℕ} (ok : Formed t) (st : Start (statesOf t) start) where
+  abbrev n : ℕ
+  n = statesOf t
 
-  abbrev preorder : Rel
-  preorder = relationOf n start
+  abbrev L : Lts
+  L = tableLts t
+
+  abbrev from : Rel
+  from = relationOf n start
 
   wf : WellFormed L
-  wf = table-formed n m k sources actions targets tab
+  wf = table-formed t ok
 
-  pre : Preorder L preorder
+  pre : Preorder L from
   unfolding tableLts
   pre = record { loop = st .loop; chain = st .chain }
 
   -- the blocks of K at the beginning are classes
-  module _ (related : List ℕ) (is : related ≡ matrixOf n (initial L preorder .related)) where
+  module _ (related : List ℕ) (is : related ≡ matrixOf n (initial L from .related)) where
     abbrev K : Rel
-    K = initial L preorder .related
+    K = initial L from .related
 
     at : (p q : ℕ) → p < n → q < n → block (relationOf n related) p q ≡ block K p q
     unfolding block
@@ -69,7 +80,7 @@ module _ (n m k : ℕ) (sources actions targets : List ℕ) (tab : Table n m k s
 
     moved : (p g h : ℕ) → T (block K p g) → T (block K p h) → T (block K g h)
     moved p g h a b =
-        let 𝓑 = initial-inv L wf preorder pre .blocks in
+        let 𝓑 = initial-inv L wf from pre .blocks in
         let u = block-iff K p g .0 a in
         let v = block-iff K p h .0 b in
         block-iff K g h .1 (𝓑 .shiftL (v .0) (u .0) (u .1), 𝓑 .shiftR (v .1) (u .0) (u .1))
@@ -80,18 +91,18 @@ module _ (n m k : ℕ) (sources actions targets : List ℕ) (tab : Table n m k s
     pub classes-first : Classes n (relationOf n related)
     unfolding tableLts
     classes-first = record {
-      own = λ p h. at p p h h ∙ T-true (block K p p) (block-iff K p p .1 (let k = initial-inv L wf preorder pre .blocks .loop h in (k, k)));
+      own = λ p h. at p p h h ∙ T-true (block K p p) (block-iff K p p .1 (let k = initial-inv L wf from pre .blocks .loop h in (k, k)));
       same = λ p g h hp hg hh e.
           let a : T (block K p g) = subst T (sym e ∙ at p g hp hg) tt in
           at p h hp hh ∙ test-ext (block K p h) (block K g h) (moved p g h a) (moved g p h (turned p g a)) ∙ sym (at g h hg hh);
     }
 
-  pub loop-begin : (related viewed blocks : List ℕ) → related ≡ matrixOf n (initial L preorder .related) → viewed ≡ matrixOf n (λ p q. true)
-      → blocks ≡ matrixOf n (block (relationOf n related)) → State L preorder schedule 0 related viewed blocks
+  pub loop-begin : (schedule related viewed blocks : List ℕ) → related ≡ matrixOf n (initial L from .related) → viewed ≡ matrixOf n (λ p q. true)
+      → blocks ≡ matrixOf n (block (relationOf n related)) → State L from schedule 0 related viewed blocks
   unfolding tableLts
-  loop-begin related viewed blocks e d b = state-begin L wf preorder pre schedule related viewed blocks e d b
+  loop-begin schedule related viewed blocks e d b = state-begin L wf from pre schedule related viewed blocks e d b
 
-  module _ (steps : ℕ) (related viewed blocks : List ℕ) (state : State L preorder schedule steps related viewed blocks) where
+  module _ {schedule : List ℕ} {steps : ℕ} {related viewed blocks : List ℕ} (state : State L from schedule steps related viewed blocks) where
     abbrev s : Relations
     s = relationsOf n related viewed
 
@@ -113,7 +124,7 @@ module _ (n m k : ℕ) (sources actions targets : List ℕ) (tab : Table n m k s
 
     pub steady : (b : ℕ) → Steady L b s
     unfolding tableLts
-    steady = state-steady L wf preorder pre schedule steps related viewed blocks state
+    steady = state-steady L wf from pre schedule steps related viewed blocks state
 
     same-related : (p q : ℕ) → p < n → q < n → relationOf n related p q ≡ s .related p q
     unfolding relationsOf
@@ -148,7 +159,7 @@ module _ (n m k : ℕ) (sources actions targets : List ℕ) (tab : Table n m k s
             same-blocks g k hg hk ∙ block-held n related g k hg hk
             ∙ T-true (block (s .related) g k) (block-iff (s .related) g k .1 (𝓑 .shiftL (v .0) (u .1) (u .0), 𝓑 .shiftR (v .1) (u .1) (u .0)));
       };
-      single = λ g h hg hh out e. absurd (true≢false (sym (inRow-ones 4 g (omega (arith, hg, tab .states))) ∙ out));
+      single = λ g h hg hh out e. absurd (true≢false (sym (inRow-ones 4 g (omega (arith, hg, ok .states))) ∙ out));
     }
       where
         turn : (a b : Bool) → a && b ≡ true → b && a ≡ true
@@ -156,9 +167,9 @@ module _ (n m k : ℕ) (sources actions targets : List ℕ) (tab : Table n m k s
         turn true false e = e
         turn false b e = absurd (true≢false (sym e))
 
-    module _ (pending : List ℕ) (c : ℕ) (pending-is : pending ≡ rowOf 4 (statesBelow n (pendingAt n related viewed blocks))) (count : c ≡ length (passing n (inRow pending))) where
+    module _ {pending : List ℕ} {c : ℕ} (pending-is : pending ≡ rowOf 4 (statesBelow n (pendingAt n related viewed blocks))) (count : c ≡ length (passing n (inRow pending))) where
       listed : passing n (inRow pending) ≡ passing n (pendingAt n related viewed blocks)
-      listed = partition.passing-row n (pendingAt n related viewed blocks) pending (tab .states) pending-is
+      listed = partition.passing-row n (pendingAt n related viewed blocks) pending (ok .states) pending-is
 
       counted : c ≡ length (passing n (pendingAt n related viewed blocks))
       counted = count ∙ ap length listed
@@ -170,7 +181,7 @@ module _ (n m k : ℕ) (sources actions targets : List ℕ) (tab : Table n m k s
 
         pub loop-below : steps < n * n
         unfolding tableLts
-        loop-below = state-below L wf preorder pre schedule steps related viewed blocks state any
+        loop-below = state-below L wf from pre schedule steps related viewed blocks state any
 
         module _ (b : ℕ) (chose : b ≡ getD (passing n (inRow pending)) (getD schedule steps 0 % c) 0) where
           b-is : b ≡ chosen L (getD schedule steps 0) s
@@ -181,26 +192,26 @@ module _ (n m k : ℕ) (sources actions targets : List ℕ) (tab : Table n m k s
 
           pub b-below : b < n
           unfolding tableLts
-          b-below = subst (λ (x : ℕ). x < n) (sym b-is) (chosen-below L wf preorder pre schedule steps related viewed blocks state (getD schedule steps 0) any)
+          b-below = subst (λ (x : ℕ). x < n) (sym b-is) (chosen-below L wf from pre schedule steps related viewed blocks state (getD schedule steps 0) any)
 
           pub loop-next : (related′ viewed′ blocks′ : List ℕ) → related′ ≡ matrixOf n (stepOf L b s .related) → viewed′ ≡ matrixOf n (stepOf L b s .viewed)
-              → blocks′ ≡ matrixOf n (block (stepOf L b s .related)) → State L preorder schedule (steps + 1) related′ viewed′ blocks′
+              → blocks′ ≡ matrixOf n (block (stepOf L b s .related)) → State L from schedule (steps + 1) related′ viewed′ blocks′
           unfolding tableLts
-          loop-next related′ viewed′ blocks′ e d k = rw add-one (state-next L wf preorder pre schedule steps related viewed blocks state b related′ viewed′ blocks′ any b-is e d k)
+          loop-next related′ viewed′ blocks′ e d k = rw add-one (state-next L wf from pre schedule steps related viewed blocks state b related′ viewed′ blocks′ any b-is e d k)
 
       module _ (none : c ≡ 0) where
-        ended : coarsest L preorder schedule ≡ record { final = s; steps = steps }
+        ended : coarsest L from schedule ≡ record { final = s; steps = steps }
         unfolding tableLts
-        ended = state-end L wf preorder pre schedule steps related viewed blocks state
+        ended = state-end L wf from pre schedule steps related viewed blocks state
             (partition.none-pending L s n (relationOf n related) (relationOf n viewed) (relationOf n blocks) refl same-related same-viewed same-blocks (sym counted ∙ none))
 
-        pub end-steps : steps ≡ coarsest L preorder schedule .steps
+        pub end-steps : steps ≡ coarsest L from schedule .steps
         end-steps = sym (ap (λ (r : Run). r .steps) ended)
 
-        pub end-related : related ≡ matrixOf n (coarsest L preorder schedule .final .related)
+        pub end-related : related ≡ matrixOf n (coarsest L from schedule .final .related)
         unfolding tableLts relationsOf
         end-related = state .related-is ∙ sym (ap (λ (r : Run). matrixOf n (r .final .related)) ended)
 
-        pub end-blocks : blocks ≡ matrixOf n (block (coarsest L preorder schedule .final .related))
+        pub end-blocks : blocks ≡ matrixOf n (block (coarsest L from schedule .final .related))
         unfolding tableLts relationsOf
         end-blocks = state .blocks-is ∙ sym (ap (λ (r : Run). matrixOf n (block (r .final .related))) ended)

@@ -1,5 +1,5 @@
 -- The set of the pending representatives and the set of the states that share a block, from step to step. Assumes nothing.
-use Prim.Native.Nat.{ℕ, _*_, _≤_, _<_}
+use Prim.Native.Nat.{ℕ, _≤_, _<_}
 use native.Mathlib.Omega.{arith}
 use mathlib.Core.Path.{_≡_, refl, sym, ap, ap₂, _∙_}
 use mathlib.Core.Bool.{Bool, true, false, not, _&&_, xor, true≢false}
@@ -7,12 +7,11 @@ use mathlib.Core.List.{List, _++_}
 use lib.Dec.{eqb}
 use lib.ListN.{drop}
 use Rattle.lts.specs.System.{Set, Rel}
-use Rattle.relation.specs.Matrix.{inRow, rowOf, statesBelow, relationOf}
-use Rattle.relation.proofs.Bounded.{any-cong}
-use Rattle.relation.proofs.Rows.{inRow-of, inRow-written}
-use Rattle.relation.proofs.Matrices.{states-in}
+use Rattle.rows.specs.Rows.{inRow, rowOf, statesBelow}
+use Rattle.relation.specs.Matrix.{relationOf}
+use Rattle.lts.proofs.Below.{any-cong, lowest-agree}
+use Rattle.rows.proofs.Rows.{inRow-of, inRow-written, states-in}
 use Rattle.partition.specs.Pending.{pendingIn}
-use Rattle.partition.proofs.Passing.{lowest-agree}
 use Rattle.splitting.specs.Split.{Singles, Parted}
 use Rattle.refinement.specs.Engine.{Unmoved}
 

@@ -1,27 +1,22 @@
 -- Rem of every action, from the keys of the transitions into N and into Y. Assumes nothing.
 use Prim.Native.Nat.{ℕ, _*_, _<_}
-use mathlib.Core.Path.{_≡_, sym, ap, ap₂, _∙_}
+use mathlib.Core.Path.{_≡_, ap, ap₂, _∙_}
 use mathlib.Core.Logic.{inl, inr}
 use mathlib.Core.Bool.{Bool, true, not, _&&_, _||_}
 use mathlib.Core.List.{List, _++_}
 use lib.ListN.{length, getD, drop, replicate}
 use Rattle.lts.specs.Bounded.{countBelow}
 use Rattle.lts.specs.System.{Set}
-use Rattle.relation.specs.Matrix.{inRow, rowOf}
-use Rattle.relation.proofs.Bounded.{length-listBelow}
-use Rattle.relation.proofs.Rows.{inRow-of, rowOf-cong}
-use Rattle.predecessors.specs.Sources.{Chains, Keyed, keysInto, sourcesInto}
-use Rattle.predecessors.proofs.Laws.{row-whole, row-from-none, into-sources, remove-enabled}
+use Rattle.rows.specs.Rows.{inRow, rowOf}
+use Rattle.lts.proofs.Below.{length-listBelow}
+use Rattle.rows.proofs.Rows.{inRow-of, rowOf-cong, row-whole, row-from-none}
+use Rattle.predecessors.specs.Sources.{Chains, keysInto}
+use Rattle.predecessors.proofs.Laws.{remove-enabled}
 use Rattle.refinement.specs.Engine.{OutsideAdded}
 
 -- what is added to words that are all 0
 pub from-zeros : (S : Set) {out row : List ℕ} → out ≡ replicate 260 0 → row ≡ rowOf 260 (λ x. inRow out x || S x) → row ≡ rowOf 260 S
 from-zeros S none e = e ∙ ap (λ (l : List ℕ). rowOf 260 (λ x. inRow l x || S x)) none ∙ row-from-none 260 S
-
--- the keys into X are the sources into X
-pub keys-sources : (k : ℕ) (sources actions keys targets : List ℕ) → Keyed k sources actions keys → (X : Set) {row : List ℕ} → row ≡ rowOf 260 (keysInto k keys targets X)
-    → row ≡ rowOf 260 (sourcesInto k sources actions targets X)
-keys-sources k sources actions keys targets keyed X e = e ∙ rowOf-cong 260 _ _ (λ x h. into-sources k sources actions keys targets keyed X x)
 
 -- the sources into Y taken out of those into N, or of all where V has every state
 module _ (n k : ℕ) (keys targets head link first next : List ℕ) (chains : Chains k keys targets head link first next) (enabled seen outside inside : List ℕ)

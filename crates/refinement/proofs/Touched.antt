@@ -1,17 +1,19 @@
 -- The rows that a part of a refinement step leaves as they were. Assumes nothing.
-use mathlib.Core.Path.{_≡_, refl, sym, ap, _∙_}
+use mathlib.Core.Path.{_≡_, refl, sym, ap, _∙_, subst}
 use mathlib.Core.Bool.{Bool, true, false, not, _&&_, _||_, and-true, and-false, true≢false}
 use mathlib.Core.List.{List, _++_}
-use Prim.Native.Nat.{ℕ, _*_, _≤_, _<_}
+use Prim.Native.Nat.{ℕ, _≤_, _<_}
 use native.Mathlib.Omega.{arith}
 use lib.ListN.{length, drop, replicate}
 use Rattle.lts.specs.System.{Set, Rel}
-use Rattle.relation.specs.Matrix.{inRow, rowOf, relationOf, matrixOf}
-use Rattle.relation.proofs.Rows.{length-written, inRow-written}
+use Rattle.rows.specs.Rows.{inRow, rowOf, statesBelow}
+use Rattle.relation.specs.Matrix.{relationOf, matrixOf}
+use Rattle.rows.proofs.Rows.{length-written, inRow-written}
 use Rattle.relation.proofs.Matrices.{relation-of, matrixOf-cong}
-use Rattle.splitting.specs.Split.{splitRelated, splitBlocks, Unsplit, Kept}
+use Rattle.splitting.specs.Split.{splitRelated, splitBlocks, Unsplit, Kept, Parted}
 use Rattle.splitting.proofs.Touched.{related-unsplit, blocks-unsplit}
-use Rattle.refinement.specs.Engine.{without, Untouched}
+use Rattle.predecessors.specs.Sources.{Linked}
+use Rattle.refinement.specs.Engine.{without, Untouched, Before, Made}
 
 pub untouched-none : (n : ℕ) (related blocks touched : List ℕ) → length touched ≡ 4 → Untouched n related blocks touched related blocks touched
 untouched-none n related blocks touched long = record { long = long; grows = λ g _ e. e; related-same = λ _ _ _ _ _. refl; blocks-same = λ _ _ _ _ _. refl }
@@ -104,3 +106,27 @@ module _ (n : ℕ) (related blocks touched rows touched′ : List ℕ) (small : 
     related-same = λ g q h l e. relation-of n _ r g q h l ∙ ap (λ (b : Bool). K g q && not (b && Rem q)) (apart g h e .1) ∙ and-true (K g q);
     blocks-same = λ _ _ _ _ _. refl;
   }
+
+-- ---- the same facts of an equal number
+
+pub row-at : (g : List ℕ) (p : ℕ) {n m : ℕ} {row : List ℕ} → n ≡ m → row ≡ rowOf 4 (statesBelow n (relationOf n g p)) → row ≡ rowOf 4 (statesBelow m (relationOf m g p))
+row-at g p e is = is ∙ ap (λ (n : ℕ). rowOf 4 (statesBelow n (relationOf n g p))) e
+
+pub parted-at : (blocks shared : List ℕ) {n m : ℕ} → n ≡ m → Parted n (relationOf n blocks) (inRow shared) → Parted m (relationOf m blocks) (inRow shared)
+parted-at blocks shared e = subst (λ (n : ℕ). Parted n (relationOf n blocks) (inRow shared)) e
+
+pub linked-at : {s k j : ℕ} {numbers head link : List ℕ} → k ≡ j → Linked s k numbers head link → Linked s j numbers head link
+linked-at {s} {numbers = numbers} {head = head} {link = link} e = subst (λ (k : ℕ). Linked s k numbers head link) e
+
+pub untouched-at : {n m : ℕ} {related blocks touched related′ blocks′ touched′ : List ℕ} → n ≡ m → Untouched n related blocks touched related′ blocks′ touched′
+    → Untouched m related blocks touched related′ blocks′ touched′
+untouched-at {related = related} {blocks = blocks} {touched = touched} {related′ = related′} {blocks′ = blocks′} {touched′ = touched′} e =
+    subst (λ (n : ℕ). Untouched n related blocks touched related′ blocks′ touched′) e
+
+pub before-at : {n m b : ℕ} {related viewed blocks shared : List ℕ} → n ≡ m → Before n b related viewed blocks shared → Before m b related viewed blocks shared
+before-at {b = b} {related = related} {viewed = viewed} {blocks = blocks} {shared = shared} e = subst (λ (n : ℕ). Before n b related viewed blocks shared) e
+
+pub made-at : {t : List ℕ} {n m b : ℕ} {shared related viewed blocks related′ viewed′ blocks′ touched : List ℕ} → n ≡ m
+    → Made t n b shared related viewed blocks related′ viewed′ blocks′ touched → Made t m b shared related viewed blocks related′ viewed′ blocks′ touched
+made-at {t} {b = b} {shared} {related} {viewed} {blocks} {related′} {viewed′} {blocks′} {touched} e =
+    subst (λ (n : ℕ). Made t n b shared related viewed blocks related′ viewed′ blocks′ touched) e

@@ -9,12 +9,14 @@ use lib.ListN.{length, getD}
 use Rattle.lts.specs.Bounded.{restrict, anyBelow, countBelow}
 use Rattle.lts.specs.System.{Set, Rel, Lts}
 use Rattle.lts.specs.Refinement.{Relations, block, refine, eachAction, stepOf}
-use Rattle.lts.specs.Table.{tableLts}
 use Rattle.lts.proofs.Refine.{Blocks}
 use Rattle.lts.proofs.Run.{Reached}
-use Rattle.predecessors.specs.Sources.{Fits, Linked, Chains, keysInto, actionSet}
-use Rattle.splitting.specs.Split.{splitBlocks, refinedRelated}
-use Rattle.relation.specs.Matrix.{inRow, rowOf, relationOf, matrixOf, Matrix}
+use Rattle.transitions.specs.Table.{statesOf, countOf, tableLts}
+use Rattle.transitions.specs.Filling.{actionSet}
+use Rattle.predecessors.specs.Sources.{Keyed, Fits, Linked, Chains, keysInto}
+use Rattle.splitting.specs.Split.{splitBlocks, refinedRelated, Parted}
+use Rattle.rows.specs.Rows.{inRow, rowOf}
+use Rattle.relation.specs.Matrix.{relationOf, matrixOf, Matrix}
 
 -- the relations that the matrices of K and V hold
 unfoldable pub heldBy : ℕ → List ℕ → Rel
@@ -23,9 +25,9 @@ heldBy n g = restrict n (relationOf n g)
 unfoldable pub relationsOf : ℕ → List ℕ → List ℕ → Relations
 relationsOf n related viewed = record { related = heldBy n related; viewed = heldBy n viewed }
 
--- the step of b's block on what the matrices hold
-abbrev pub stepped : ℕ → ℕ → ℕ → List ℕ → List ℕ → List ℕ → ℕ → List ℕ → List ℕ → Relations
-stepped n m k sources actions targets b related viewed = stepOf (tableLts n m k sources actions targets) b (relationsOf n related viewed)
+-- the step of b's block, in the system of the table t, on what the matrices hold
+abbrev pub stepped : List ℕ → ℕ → List ℕ → List ℕ → Relations
+stepped t b related viewed = stepOf (tableLts t) b (relationsOf (statesOf t) related viewed)
 
 -- K and its blocks after the actions 1 to j by rows, from the sets Rem and "into B" of every action
 pub record Refined : Type 0 where
@@ -77,16 +79,38 @@ RemovedBy n keys targets head link first next enabled seen outside inside r =
     → (countBelow (4 * 64) (inRow seen) ≡ n → (i : ℕ) → i < k → inRow outside (getD targets i 0) || inRow inside (getD targets i 0) ≡ true)
     → r ≡ rowOf 260 (λ x. keysInto k keys targets (inRow outside) x && not (keysInto k keys targets (inRow inside) x))
 
+-- what a table's transitions are indexed by: their keys and targets, the chains through them, and the keys of all
+pub record Indexed (t keys targets head link first next enabled : List ℕ) : Type 0 where
+  pub keyed : Keyed t keys targets
+  pub chains : Chains (countOf t) keys targets head link first next
+  pub enabled-is : enabled ≡ rowOf 260 (keysInto (countOf t) keys targets (λ t. true))
+
+-- what the step of b's block begins with: matrices of K and V, the blocks of K, and a set with each state that shares a block
+pub record Before (n b : ℕ) (related viewed blocks shared : List ℕ) : Type 0 where
+  pub low : b < n
+  pub related-formed : Matrix n related
+  pub viewed-formed : Matrix n viewed
+  pub blocks-is : blocks ≡ matrixOf n (block (relationOf n related))
+  pub parts : Parted n (relationOf n blocks) (inRow shared)
+
 -- K has blocks after each action of the step of p's block
 pub record Steady (L : Lts) (p : ℕ) (s : Relations) : Type 0 where
   pub during : (j : ℕ) → Blocks (λ g. g < L .states) (λ g h. T (eachAction j (refine L (block (s .related) p) (s .related p) (λ q. s .viewed p q && not (s .related p q))) (s .related) g h))
 
+-- what the step of b's block, in the system of the table t, has made of the matrices, and the states at which a row can have changed
+pub record Made (t : List ℕ) (n b : ℕ) (shared related viewed blocks related′ viewed′ blocks′ touched : List ℕ) : Type 0 where
+  pub related-is : related′ ≡ matrixOf n (stepped t b related viewed .related)
+  pub viewed-is : viewed′ ≡ matrixOf n (stepped t b related viewed .viewed)
+  pub blocks-is : blocks′ ≡ matrixOf n (block (stepped t b related viewed .related))
+  pub unmoved : Unmoved n touched related viewed blocks related′ viewed′ blocks′
+  pub parts : Parted n (relationOf n blocks′) (inRow shared)
+
 -- Where the engine's loop stands after some steps: the matrices of K, V and the blocks of K hold what the run has reached.
-pub record State (L : Lts) (preorder : Rel) (schedule : List ℕ) (steps : ℕ) (related viewed blocks : List ℕ) : Type 0 where
+pub record State (L : Lts) (start : Rel) (schedule : List ℕ) (steps : ℕ) (related viewed blocks : List ℕ) : Type 0 where
   pub related-is : related ≡ matrixOf (L .states) (heldBy (L .states) related)
   pub viewed-is : viewed ≡ matrixOf (L .states) (heldBy (L .states) viewed)
   pub blocks-is : blocks ≡ matrixOf (L .states) (block (heldBy (L .states) related))
-  pub reached : Reached L preorder schedule steps (relationsOf (L .states) related viewed)
+  pub reached : Reached L start schedule steps (relationsOf (L .states) related viewed)
 
 -- a matrix that is a preorder
 pub record Start (n : ℕ) (g : List ℕ) : Type 0 where

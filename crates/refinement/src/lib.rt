@@ -6,34 +6,39 @@ ghost use mathlib.Core.List.{List};
 ghost use Prim.Native.Nat.{ℕ, _*_, _<_, _≤_};
 ghost use lib.ListN.{length, replicate};
 ghost use Rattle.lts.specs.Refinement.{block, coarsest};
-ghost use Rattle.lts.specs.Table.{tableLts, Table};
-ghost use Rattle.relation.specs.Matrix.{inRow, rowOf, rowWords, relationOf, matrixOf, Matrix};
-ghost use Rattle.predecessors.specs.Sources.{Keyed, IntoStates, Chains, keysInto, actionSet};
+ghost use Rattle.rows.specs.Rows.{inRow, rowWords};
+ghost use Rattle.relation.specs.Matrix.{relationOf, matrixOf, Matrix};
+ghost use Rattle.transitions.specs.Table.{statesOf, tableLts, Formed};
+ghost use Rattle.transitions.specs.Filling.{actionSet};
+ghost use Rattle.predecessors.specs.Sources.{IntoStates, Chains};
 ghost use Rattle.splitting.specs.Split.{splitRelated, splitBlocks, refinedRelated, Equivalence, Parted};
-ghost use Rattle.refinement.specs.Engine.{acted, relationsOf, stepped, Steady, Start, Untouched, Unmoved, without, HitRows, OutsideAdded, RemovedBy};
+ghost use Rattle.refinement.specs.Engine.{acted, relationsOf, Steady, Start, Untouched, without, HitRows};
+ghost use Rattle.refinement.specs.Engine.{OutsideAdded, RemovedBy, Indexed, Before, Made};
 
 // The rows of K that Rem is pruned from: those of the blocks with a hit. A hit is not in Rem, so the split leaves them in one block.
 fn hit_rows(n: usize, rem: &[u64; 4], hits: &[u64], blocks: &[u64]) -> [u64; 4]
     requires { ⌜ (n ≤ 256) × Matrix n (now blocks) × (4 ≤ length (now hits)) × Equivalence n (relationOf n (now blocks)) ⌝ }
     ensures { λ r. ⌜ HitRows n (inRow (now (rem .entry))) (inRow (now (hits .entry))) (relationOf n (now (blocks .entry))) (inRow r) ⌝ }
 {
-    if !relation::row_any(hits, 4) {
+    if !rows::row_any(hits, 4) {
         return [0u64; 4];
     }
     let mut rows = splitting::meeting_rows(blocks, n, hits);
-    relation::row_minus(&mut rows, rem, 4);
+    rows::row_minus(&mut rows, rem, 4);
     rows
 }
 
 // Drops Rem from the rows of K that have a hit. Adds them to `touched`.
 fn prune_by(n: usize, rem: &[u64; 4], hit: &[u64; 4], related: &mut [u64], touched: &mut [u64])
     requires { ⌜ (n ≤ 256) × Matrix n (now related) × (length (now touched) ≡ 4) ⌝ }
-    ensures { λ _. ⌜ now (related .exit) ≡ matrixOf n (without (inRow (now (hit .entry))) (inRow (now (rem .entry))) (relationOf n (now (related .entry)))) ⌝ }
-    ensures { λ _. ⌜ ((blocks : List ℕ) → Untouched n (now (related .entry)) blocks (now (touched .entry)) (now (related .exit)) blocks (now (touched .exit))) ⌝ }
+    ensures { λ _. ⌜ now (related .exit)
+        ≡ matrixOf n (without (inRow (now (hit .entry))) (inRow (now (rem .entry))) (relationOf n (now (related .entry)))) ⌝ }
+    ensures { λ _. ⌜ ((blocks : List ℕ)
+        → Untouched n (now (related .entry)) blocks (now (touched .entry)) (now (related .exit)) blocks (now (touched .exit))) ⌝ }
 {
-    if relation::row_any(hit, 4) {
+    if rows::row_any(hit, 4) {
         splitting::remove_from(related, n, rem, hit);
-        relation::row_union(touched, hit, 4);
+        rows::row_union(touched, hit, 4);
     }
 }
 
@@ -47,21 +52,24 @@ fn split_by(
     blocks: &mut [u64],
     touched: &mut [u64],
 )
-    requires { ⌜ (n ≤ 256) × Matrix n (now related) × Matrix n (now blocks) × Parted n (relationOf n (now blocks)) (inRow (now shared)) × (length (now touched) ≡ 4) ⌝ }
+    requires { ⌜ (n ≤ 256) × Matrix n (now related) × Matrix n (now blocks) × Parted n (relationOf n (now blocks)) (inRow (now shared))
+        × (length (now touched) ≡ 4) ⌝ }
     requires { ⌜ ((g h : ℕ) → g < n → h < n → inRow (now hit) g ≡ true → relationOf n (now related) g h ≡ true → inRow (now rem) h ≡ false) ⌝ }
-    ensures { λ _. ⌜ now (related .exit) ≡ matrixOf n (splitRelated (inRow (now (rem .entry))) (relationOf n (now (related .entry))) (relationOf n (now (blocks .entry)))) ⌝ }
+    ensures { λ _. ⌜ now (related .exit)
+        ≡ matrixOf n (splitRelated (inRow (now (rem .entry))) (relationOf n (now (related .entry))) (relationOf n (now (blocks .entry)))) ⌝ }
     ensures { λ _. ⌜ now (blocks .exit) ≡ matrixOf n (splitBlocks (inRow (now (rem .entry))) (relationOf n (now (blocks .entry)))) ⌝ }
-    ensures { λ _. ⌜ Untouched n (now (related .entry)) (now (blocks .entry)) (now (touched .entry)) (now (related .exit)) (now (blocks .exit)) (now (touched .exit)) ⌝ }
+    ensures { λ _. ⌜ Untouched n (now (related .entry)) (now (blocks .entry)) (now (touched .entry))
+        (now (related .exit)) (now (blocks .exit)) (now (touched .exit)) ⌝ }
     ensures { λ _. ⌜ Parted n (relationOf n (now (blocks .exit))) (inRow (now (shared .entry))) ⌝ }
 {
     let rows = splitting::split_rows(blocks, n, shared, rem);
-    if relation::row_any(&rows, 4) {
+    if rows::row_any(&rows, 4) {
         let mut rest = [0u64; 4];
-        relation::row_copy(&mut rest, &rows, 4);
-        relation::row_minus(&mut rest, hit, 4);
+        rows::row_copy(&mut rest, &rows, 4);
+        rows::row_minus(&mut rest, hit, 4);
         splitting::split_related(related, blocks, n, rem, &rest);
         splitting::split_blocks(blocks, n, rem, &rows);
-        relation::row_union(touched, &rows, 4);
+        rows::row_union(touched, &rows, 4);
     }
 }
 
@@ -76,16 +84,19 @@ fn refine_action(
     blocks: &mut [u64],
     touched: &mut [u64],
 )
-    requires { ⌜ (n ≤ 256) × (a ≤ 64) × Matrix n (now related) × Matrix n (now blocks) × Parted n (relationOf n (now blocks)) (inRow (now shared)) × (length (now touched) ≡ 4) ⌝ }
+    requires { ⌜ (n ≤ 256) × (a ≤ 64) × Matrix n (now related) × Matrix n (now blocks) × Parted n (relationOf n (now blocks)) (inRow (now shared))
+        × (length (now touched) ≡ 4) ⌝ }
     requires { ⌜ ((x : ℕ) → x < n → actionSet (now members) a x ≡ true → actionSet (now removed) a x ≡ false) ⌝ }
-    ensures { λ _. ⌜ now (related .exit) ≡ matrixOf n (refinedRelated n (actionSet (now (removed .entry)) a) (actionSet (now (members .entry)) a) (relationOf n (now (related .entry))) (relationOf n (now (blocks .entry)))) ⌝ }
+    ensures { λ _. ⌜ now (related .exit) ≡ matrixOf n (refinedRelated n (actionSet (now (removed .entry)) a) (actionSet (now (members .entry)) a)
+        (relationOf n (now (related .entry))) (relationOf n (now (blocks .entry)))) ⌝ }
     ensures { λ _. ⌜ now (blocks .exit) ≡ matrixOf n (splitBlocks (actionSet (now (removed .entry)) a) (relationOf n (now (blocks .entry)))) ⌝ }
-    ensures { λ _. ⌜ Untouched n (now (related .entry)) (now (blocks .entry)) (now (touched .entry)) (now (related .exit)) (now (blocks .exit)) (now (touched .exit)) ⌝ }
+    ensures { λ _. ⌜ Untouched n (now (related .entry)) (now (blocks .entry)) (now (touched .entry))
+        (now (related .exit)) (now (blocks .exit)) (now (touched .exit)) ⌝ }
     ensures { λ _. ⌜ Parted n (relationOf n (now (blocks .exit))) (inRow (now (shared .entry))) ⌝ }
 {
     let rem = predecessors::action_set(removed, a);
-    if relation::row_any(&rem, 4) {
-        let hit = hit_rows(n, &rem, relation::action_part(members, a), blocks);
+    if rows::row_any(&rem, 4) {
+        let hit = hit_rows(n, &rem, transitions::action_part(members, a), blocks);
         prune_by(n, &rem, &hit, related, touched);
         split_by(n, &rem, shared, &hit, related, blocks, touched);
     }
@@ -102,11 +113,15 @@ fn refine_actions(
     blocks: &mut [u64],
     touched: &mut [u64],
 )
-    requires { ⌜ (n ≤ 256) × (m ≤ 64) × Matrix n (now related) × Matrix n (now blocks) × Parted n (relationOf n (now blocks)) (inRow (now shared)) × (length (now touched) ≡ 4) ⌝ }
+    requires { ⌜ (n ≤ 256) × (m ≤ 64) × Matrix n (now related) × Matrix n (now blocks) × Parted n (relationOf n (now blocks)) (inRow (now shared))
+        × (length (now touched) ≡ 4) ⌝ }
     requires { ⌜ ((a x : ℕ) → a ≤ m → x < n → actionSet (now members) a x ≡ true → actionSet (now removed) a x ≡ false) ⌝ }
-    ensures { λ _. ⌜ now (related .exit) ≡ matrixOf n (acted n (now (removed .entry)) (now (members .entry)) m (now (related .entry)) (now (blocks .entry)) .related) ⌝ }
-    ensures { λ _. ⌜ now (blocks .exit) ≡ matrixOf n (acted n (now (removed .entry)) (now (members .entry)) m (now (related .entry)) (now (blocks .entry)) .blocks) ⌝ }
-    ensures { λ _. ⌜ Untouched n (now (related .entry)) (now (blocks .entry)) (now (touched .entry)) (now (related .exit)) (now (blocks .exit)) (now (touched .exit)) ⌝ }
+    ensures { λ _. ⌜ now (related .exit)
+        ≡ matrixOf n (acted n (now (removed .entry)) (now (members .entry)) m (now (related .entry)) (now (blocks .entry)) .related) ⌝ }
+    ensures { λ _. ⌜ now (blocks .exit)
+        ≡ matrixOf n (acted n (now (removed .entry)) (now (members .entry)) m (now (related .entry)) (now (blocks .entry)) .blocks) ⌝ }
+    ensures { λ _. ⌜ Untouched n (now (related .entry)) (now (blocks .entry)) (now (touched .entry))
+        (now (related .exit)) (now (blocks .exit)) (now (touched .exit)) ⌝ }
     ensures { λ _. ⌜ Parted n (relationOf n (now (blocks .exit))) (inRow (now (shared .entry))) ⌝ }
 {
     let mut a = 0;
@@ -128,10 +143,11 @@ fn add_outside(
     out: &mut [u64],
 )
     requires { ⌜ IntoStates (now keys) (now head) (now link) × (length (now out) ≡ 260) ⌝ }
-    ensures { λ _. ⌜ OutsideAdded n (now (keys .entry)) (now (head .entry)) (now (link .entry)) (now (enabled .entry)) (now (seen .entry)) (now (outside .entry)) (now (out .entry)) (now (out .exit)) ⌝ }
+    ensures { λ _. ⌜ OutsideAdded n (now (keys .entry)) (now (head .entry)) (now (link .entry)) (now (enabled .entry))
+        (now (seen .entry)) (now (outside .entry)) (now (out .entry)) (now (out .exit)) ⌝ }
 {
-    if relation::row_count(seen, 4) == n {
-        relation::row_union(out, enabled, 260);
+    if rows::row_count(seen, 4) == n {
+        rows::row_union(out, enabled, 260);
         return;
     }
     predecessors::add_sources(keys, head, link, outside, out);
@@ -154,27 +170,24 @@ fn write_removed(
     out: &mut [u64],
 )
     requires { ⌜ ((k : ℕ) × Chains k (now keys) (now targets) (now head) (now link) (now first) (now next)) × (now out ≡ replicate 260 0) ⌝ }
-    ensures { λ _. ⌜ RemovedBy n (now (keys .entry)) (now (targets .entry)) (now (head .entry)) (now (link .entry)) (now (first .entry)) (now (next .entry)) (now (enabled .entry)) (now (seen .entry)) (now (outside .entry)) (now (inside .entry)) (now (out .exit)) ⌝ }
+    ensures { λ _. ⌜ RemovedBy n (now (keys .entry)) (now (targets .entry)) (now (head .entry)) (now (link .entry)) (now (first .entry))
+        (now (next .entry)) (now (enabled .entry)) (now (seen .entry)) (now (outside .entry)) (now (inside .entry)) (now (out .exit)) ⌝ }
 {
-    if 4 * relation::row_count(outside, 4) <= relation::row_count(inside, 4) + 16 {
+    if 4 * rows::row_count(outside, 4) <= rows::row_count(inside, 4) + 16 {
         predecessors::add_removed(keys, targets, head, link, first, next, outside, inside, out);
         return;
     }
     let mut into_inside = [0u64; 260];
     predecessors::add_sources(keys, head, link, inside, &mut into_inside);
     add_outside(n, keys, head, link, enabled, seen, outside, out);
-    relation::row_minus(out, &into_inside, 260);
+    rows::row_minus(out, &into_inside, 260);
 }
 
 // The refinement step of the block of b. Gives the states at which a row of K, V or the blocks can have changed.
 fn refine_step(
-    n: usize,
-    m: usize,
-    k: usize,
-    sources: &[u16; 1024],
-    actions: &[u8; 1024],
-    targets: &[u16; 1024],
+    table: &transitions::Table,
     keys: &[u16; 1024],
+    targets: &[u16; 1024],
     head: &[u16; 256],
     link: &[u16; 1024],
     first: &[u16; 16640],
@@ -186,21 +199,20 @@ fn refine_step(
     viewed: &mut [u64],
     blocks: &mut [u64],
 ) -> [u64; 4]
-    requires { ⌜ Table n m k (now sources) (now actions) (now targets) × Keyed k (now sources) (now actions) (now keys) × Chains k (now keys) (now targets) (now head) (now link) (now first) (now next) × (now enabled ≡ rowOf 260 (keysInto k (now keys) (now targets) (λ t. true))) × Matrix n (now related) × Matrix n (now viewed) × (b < n) × Parted n (relationOf n (now blocks)) (inRow (now shared)) ⌝ }
-    requires { ⌜ now blocks ≡ matrixOf n (block (relationOf n (now related))) ⌝ }
-    requires { ⌜ Steady (tableLts n m k (now sources) (now actions) (now targets)) b (relationsOf n (now related) (now viewed)) ⌝ }
-    ensures { λ _. ⌜ now (related .exit) ≡ matrixOf n (stepped n m k (now (sources .entry)) (now (actions .entry)) (now (targets .entry)) b (now (related .entry)) (now (viewed .entry)) .related) ⌝ }
-    ensures { λ _. ⌜ now (viewed .exit) ≡ matrixOf n (stepped n m k (now (sources .entry)) (now (actions .entry)) (now (targets .entry)) b (now (related .entry)) (now (viewed .entry)) .viewed) ⌝ }
-    ensures { λ _. ⌜ now (blocks .exit) ≡ matrixOf n (block (stepped n m k (now (sources .entry)) (now (actions .entry)) (now (targets .entry)) b (now (related .entry)) (now (viewed .entry)) .related)) ⌝ }
-    ensures { λ r. ⌜ Unmoved n r (now (related .entry)) (now (viewed .entry)) (now (blocks .entry)) (now (related .exit)) (now (viewed .exit)) (now (blocks .exit)) ⌝ }
-    ensures { λ _. ⌜ Parted n (relationOf n (now (blocks .exit))) (inRow (now (shared .entry))) ⌝ }
+    requires { ⌜ Formed (now table)
+        × Indexed (now table) (now keys) (now targets) (now head) (now link) (now first) (now next) (now enabled) ⌝ }
+    requires { ⌜ Before (statesOf (now table)) b (now related) (now viewed) (now blocks) (now shared) ⌝ }
+    requires { ⌜ Steady (tableLts (now table)) b (relationsOf (statesOf (now table)) (now related) (now viewed)) ⌝ }
+    ensures { λ r. ⌜ Made (now (table .entry)) (statesOf (now (table .entry))) b (now (shared .entry))
+        (now (related .entry)) (now (viewed .entry)) (now (blocks .entry)) (now (related .exit)) (now (viewed .exit)) (now (blocks .exit)) r ⌝ }
 {
-    let members = splitting::row_set(blocks, n, b);
-    let inside = splitting::row_set(related, n, b);
-    let seen = splitting::row_set(viewed, n, b);
-    let mut outside = splitting::row_set(viewed, n, b);
-    relation::row_minus(&mut outside, &inside, 4);
-    splitting::set_views(viewed, n, &members, &inside);
+    let n = transitions::states(table);
+    let members = relation::row_set(blocks, n, b);
+    let inside = relation::row_set(related, n, b);
+    let seen = relation::row_set(viewed, n, b);
+    let mut outside = relation::row_set(viewed, n, b);
+    rows::row_minus(&mut outside, &inside, 4);
+    relation::set_rows(viewed, n, &members, &inside);
     let mut removed = [0u64; 260];
     write_removed(
         n,
@@ -218,10 +230,10 @@ fn refine_step(
     );
     let mut into_members = [0u64; 260];
     predecessors::add_sources(keys, head, link, &members, &mut into_members);
-    let mut touched = splitting::row_set(blocks, n, b);
+    let mut touched = relation::row_set(blocks, n, b);
     refine_actions(
         n,
-        m,
+        transitions::actions(table),
         &removed,
         &into_members,
         shared,
@@ -238,39 +250,43 @@ fn drop_single(blocks: &[u64], n: usize, rows: &[u64; 4], shared: &mut [u64])
     ensures { λ _. ⌜ Parted n (relationOf n (now (blocks .entry))) (inRow (now (shared .exit))) ⌝ }
 {
     let alone = splitting::single_rows(blocks, n, rows);
-    relation::row_minus(shared, &alone, 4);
+    rows::row_minus(shared, &alone, 4);
 }
 
 // The whole run: K, V and the blocks at its end, and the number of steps made.
 pub fn refine_all(
-    n: usize,
-    m: usize,
-    k: usize,
-    sources: &[u16; 1024],
-    actions: &[u8; 1024],
-    targets: &[u16; 1024],
+    table: &transitions::Table,
     start: &[u64],
     schedule: &[u16],
     related: &mut [u64],
     viewed: &mut [u64],
     blocks: &mut [u64],
 ) -> usize
-    requires { ⌜ Table n m k (now sources) (now actions) (now targets) × Start n (now start) ⌝ }
-    requires { ⌜ (length (now related) ≡ n * rowWords n) × (length (now viewed) ≡ n * rowWords n) × (length (now blocks) ≡ n * rowWords n) ⌝ }
-    ensures { λ r. ⌜ r ≡ coarsest (tableLts n m k (now (sources .entry)) (now (actions .entry)) (now (targets .entry))) (relationOf n (now (start .entry))) (now (schedule .entry)) .steps ⌝ }
-    ensures { λ r. ⌜ now (related .exit) ≡ matrixOf n (coarsest (tableLts n m k (now (sources .entry)) (now (actions .entry)) (now (targets .entry))) (relationOf n (now (start .entry))) (now (schedule .entry)) .final .related) ⌝ }
-    ensures { λ r. ⌜ now (blocks .exit) ≡ matrixOf n (block (coarsest (tableLts n m k (now (sources .entry)) (now (actions .entry)) (now (targets .entry))) (relationOf n (now (start .entry))) (now (schedule .entry)) .final .related)) ⌝ }
+    requires { ⌜ Formed (now table) × Start (statesOf (now table)) (now start) ⌝ }
+    requires { ⌜ (let words = statesOf (now table) * rowWords (statesOf (now table)) in
+        (length (now related) ≡ words) × (length (now viewed) ≡ words) × (length (now blocks) ≡ words)) ⌝ }
+    ensures { λ r. ⌜ (let t = now (table .entry) in
+        r ≡ coarsest (tableLts t) (relationOf (statesOf t) (now (start .entry))) (now (schedule .entry)) .steps) ⌝ }
+    ensures { λ _. ⌜ (let t = now (table .entry) in
+        let run = coarsest (tableLts t) (relationOf (statesOf t) (now (start .entry))) (now (schedule .entry)) in
+        now (related .exit) ≡ matrixOf (statesOf t) (run .final .related)) ⌝ }
+    ensures { λ _. ⌜ (let t = now (table .entry) in
+        let run = coarsest (tableLts t) (relationOf (statesOf t) (now (start .entry))) (now (schedule .entry)) in
+        now (blocks .exit) ≡ matrixOf (statesOf t) (block (run .final .related))) ⌝ }
 {
+    let n = transitions::states(table);
+    let k = transitions::count(table);
     let mut keys = [0u16; 1024];
+    let mut targets = [0u16; 1024];
     let mut head = [0u16; 256];
     let mut link = [0u16; 1024];
     let mut first = [0u16; 16640];
     let mut next = [0u16; 1024];
-    predecessors::write_keys(k, sources, actions, &mut keys);
-    predecessors::link_transitions(k, targets, &mut head, &mut link);
+    predecessors::write_keys(table, &mut keys, &mut targets);
+    predecessors::link_transitions(k, &targets, &mut head, &mut link);
     predecessors::link_transitions(k, &keys, &mut first, &mut next);
     let enabled = predecessors::enabled_sources(&keys, &head, &link);
-    predecessors::write_initial(n, k, sources, actions, &enabled, start, related);
+    predecessors::write_initial(table, &enabled, start, related);
     relation::write_all_pairs(n, viewed);
     partition::write_blocks(related, n, blocks);
     let all = [18446744073709551615u64; 4];
@@ -283,13 +299,9 @@ pub fn refine_all(
     while 0 < c {
         let b = partition::next_block(&pending, n, c, schedule, steps);
         let touched = refine_step(
-            n,
-            m,
-            k,
-            sources,
-            actions,
-            targets,
+            table,
             &keys,
+            &targets,
             &head,
             &link,
             &first,

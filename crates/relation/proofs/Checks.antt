@@ -1,6 +1,6 @@
 -- Laws of the tests: what a test over every number below a bound says, inclusion of words and rows, and the bits from n on. Assumes nothing.
-use mathlib.Core.Path.{_≡_, refl, sym, ap, ap₂, _∙_, subst, subst⁻¹}
-use mathlib.Core.Bool.{Bool, true, false, cond, not, _&&_, _||_, xor}
+use mathlib.Core.Path.{_≡_, sym, ap, ap₂, _∙_, subst⁻¹}
+use mathlib.Core.Bool.{Bool, true, false, not, _&&_, _||_, xor}
 use mathlib.Core.List.{List}
 use mathlib.Core.Logic.{⊎-elim}
 use Prim.Native.Nat.{ℕ, _+_, _-_, _*_, _/_, _%_, _^_, _≤_, _<_}
@@ -8,74 +8,19 @@ use native.Mathlib.Nat.{div-lt-iff-lt-mul, mod-lt, div-add-mod'}
 use native.Mathlib.Omega.{arith}
 use lib.Dec.{T, eqb}
 use lib.Pow.{shr-shr, shr-lt}
-use lib.Count.{trailingZeros}
 use lib.ListN.{length, getD, drop}
 use borrow.Author.Tests.{lt-ltb, le-ltb, eq-eqb, ne-eqb, eqb-true, not-true}
-use Rattle.relation.specs.Matrix.{bit, inRow, inMatrix, relationOf, rowWords, Matrix}
-use Rattle.relation.specs.Check.{includedBelow, withinBelow, reflexiveBelow, transitivePair, transitiveAt, transitiveBelow, clearAt, isMatrix, startRules}
+use Rattle.rows.specs.Rows.{bit, inRow, rowWords, includedBelow}
+use Rattle.relation.specs.Matrix.{inMatrix, relationOf, Matrix}
+use Rattle.relation.specs.Check.{withinBelow, reflexiveBelow, transitivePair, transitiveAt, transitiveBelow, clearAt, isMatrix, startRules}
 use Rattle.lts.specs.Rule.{Nothing, broken}
 use Rattle.lts.proofs.Rule.{kept}
 use Rattle.lts.specs.System.{Lts, allStates, reflexive, transitive}
 use Rattle.lts.specs.Bounded.{lowest, anyBelow, allBelow, _⇒_}
-use Rattle.relation.proofs.Bits.{word-ext, bit-of-zero, word-zero}
-use Rattle.relation.proofs.Rows.{Bitwise, inRow-at, zip-joined}
-use Rattle.relation.proofs.Bounded.{any-cong, any-shorter, lowest-cong, lowest-shorter, all-at, all-cong, all-of, all-shorter, all-yes, and-fst, and-snd, bool-iff, clash, lt-or-ge, any-yes, any-no, any-some, either, all-not, true-T}
-use Rattle.relation.proofs.Counts.{trailing-lt, trailing-at}
+use Rattle.rows.proofs.Bits.{word-ext, bit-of-zero, word-zero}
+use Rattle.rows.proofs.Rows.{inRow-at}
+use Rattle.lts.proofs.Below.{any-cong, any-shorter, lowest-cong, lowest-shorter, all-at, all-cong, all-of, all-shorter, all-yes, and-fst, and-snd, bool-iff, lt-or-ge, true-T}
 use Rattle.relation.proofs.Matrices.{inRow-drop, inMatrix-at, pair-word, width-positive}
-
--- ---- numbers in blocks of 64
-
-pub block-more : (P : ℕ → Type 0) (c t : ℕ) → ((q : ℕ) → q < c * 64 → P q) → ((i : ℕ) → i < t → P (c * 64 + i)) → (q : ℕ) → q < c * 64 + t → P q
-block-more P c t below here q h =
-    ⊎-elim (λ (l : q < c * 64). below q l)
-    (λ (l : c * 64 ≤ q). let split : c * 64 + (q - c * 64) ≡ q = omega arith in subst P split (here (q - c * 64) (omega arith)))
-    (lt-or-ge q (c * 64))
-
--- ---- a test of two rows by a bitwise operation on their words: is the word 0?
-
-module _ (op : ℕ → ℕ → ℕ) (β : Bool → Bool → Bool) (ok : Bitwise op β) (a b : List ℕ) (c : ℕ) (ha : getD a c 0 < 2 ^ 64) (hb : getD b c 0 < 2 ^ 64) where
-  at-bit : (i : ℕ) → i < 64 → β (inRow a (c * 64 + i)) (inRow b (c * 64 + i)) ≡ bit (op (getD a c 0) (getD b c 0)) i
-  at-bit i l = sym (zip-joined op β ok a b c ha hb i l)
-
-  -- it is not: some member is found
-  pub word-found : (k : ℕ) → c < k → (op (getD a c 0) (getD b c 0) ≡ 0 → ⊥) → true ≡ anyBelow (k * 64) (λ q. β (inRow a q) (inRow b q))
-  word-found k h ne =
-      let z = op (getD a c 0) (getD b c 0) in
-      let low = trailing-lt 64 z (ok .small _ _ ha hb) ne in
-      any-yes (k * 64) _ (c * 64 + trailingZeros 64 z) (omega (arith, low)) (at-bit (trailingZeros 64 z) low ∙ trailing-at 64 z low)
-
-  -- it is: none in this word
-  pub word-passed : op (getD a c 0) (getD b c 0) ≡ 0 → ((q : ℕ) → q < c * 64 → β (inRow a q) (inRow b q) ≡ false)
-      → (q : ℕ) → q < (c + 1) * 64 → β (inRow a q) (inRow b q) ≡ false
-  word-passed e none q h =
-      block-more (λ q. β (inRow a q) (inRow b q) ≡ false) c 64 none (λ i l. at-bit i l ∙ ap (λ (z : ℕ). bit z i) e ∙ bit-of-zero i) q (omega arith)
-
-pub none-passed : (k c : ℕ) (f : ℕ → Bool) → c ≡ k → ((q : ℕ) → q < c * 64 → f q ≡ false) → false ≡ anyBelow (k * 64) f
-none-passed k c f e none = any-no (k * 64) f (λ q h. none q (omega arith))
-
--- inclusion: no member of A is outside B
-pub included-any : (k : ℕ) (A B : ℕ → Bool) → not (anyBelow k (λ q. A q && not (B q))) ≡ includedBelow k A B
-unfolding includedBelow
-included-any k A B = ⊎-elim
-    (λ p. let s = any-some k outside p in ap not p ∙ all-not k _ (s .0) (s .1) (out (A (s .0)) (B (s .0)) (s .2)))
-    (λ p. ap not p ∙ all-yes k _ (λ q h. inside (A q) (B q) (not-any q h p)))
-    (either (anyBelow k outside))
-  where
-    outside : ℕ → Bool
-    outside q = A q && not (B q)
-
-    not-any : (q : ℕ) → q < k → anyBelow k outside ≡ false → outside q ≡ false
-    not-any q h p = ⊎-elim (λ e. absurd (clash (sym (any-yes k outside q h e)) p)) (λ e. e) (either (outside q))
-
-    out : (a b : Bool) → a && not b ≡ true → (a ⇒ b) ≡ false
-    out true true p = sym p
-    out true false p = refl
-    out false b p = absurd (clash p refl)
-
-    inside : (a b : Bool) → a && not b ≡ false → (a ⇒ b) ≡ true
-    inside true true p = refl
-    inside true false p = sym p
-    inside false b p = refl
 
 -- ---- inclusion of a matrix's rows
 
@@ -101,10 +46,11 @@ rows-differ n g h p r okg okh hp hr =
     (λ q l u. ap₂ xor (okg .clear p q hp l u) (okh .clear r q hr l u))
 
 -- the lowest state of a row that has one
-pub row-lowest : (n : ℕ) (g : List ℕ) (p q : ℕ) → p < n → q < n → relationOf n g p q ≡ true
-    → lowest (rowWords n * 64) (inRow (drop (p * rowWords n) g)) ≡ lowest n (relationOf n g p)
-row-lowest n g p q hp hq e =
-    lowest-cong (rowWords n * 64) _ _ (λ i. inRow-drop (rowWords n) g p i) ∙ lowest-shorter n (rowWords n * 64) (relationOf n g p) (omega arith) q hq e
+pub row-lowest : (n : ℕ) (g : List ℕ) (p q : ℕ) {row : List ℕ} {w : ℕ} → w ≡ rowWords n → row ≡ drop (p * rowWords n) g → p < n → q < n
+    → relationOf n g p q ≡ true → lowest (w * 64) (inRow row) ≡ lowest n (relationOf n g p)
+row-lowest n g p q width at hp hq e =
+    ap₂ (λ (k : ℕ) (l : List ℕ). lowest (k * 64) (inRow l)) width at
+    ∙ lowest-cong (rowWords n * 64) _ _ (λ i. inRow-drop (rowWords n) g p i) ∙ lowest-shorter n (rowWords n * 64) (relationOf n g p) (omega arith) q hq e
 
 -- ---- the bits of a word from m on: none is set where `x >> m` is 0
 

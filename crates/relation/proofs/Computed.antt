@@ -5,18 +5,19 @@ use Prim.Native.Nat.{ℕ}
 use lib.Dec.{leb}
 use Rattle.lts.specs.Bounded.{_⇒_, allBelow, sumBelow, countBelow, listBelow}
 use Rattle.lts.specs.Rule.{broken, checked, check}
-use Rattle.lts.specs.Table.{markedSet}
 use Rattle.lts.specs.declared.Refusal.the-variants.{Grid, NotReflexive, NotTransitive}
 use Rattle.lts.specs.declared.Checked.the-variants.{Passed, Refused}
-use Rattle.relation.specs.Matrix.{bit, wordOf, wordAt, inMatrix, matrixOf, relationOf, pairCount}
+use Rattle.rows.specs.Rows.{bit, inRow, wordOf, wordAt}
+use Rattle.relation.specs.Matrix.{inMatrix, matrixOf, relationOf, pairCount}
 use Rattle.relation.specs.Check.{isMatrix, reflexiveBelow, transitiveBelow, transitiveAt, transitivePair, startRules}
 
-marks : List ℕ
-marks = 0 ∷ 1 ∷ 0 ∷ []
+-- the set of state 1 alone
+terminating : List ℕ
+terminating = 2 ∷ 0 ∷ 0 ∷ 0 ∷ []
 
 -- state 1 terminates: it is related to itself alone, and every state to every other
-termination : matrixOf 3 (λ p q. markedSet 3 marks p ⇒ markedSet 3 marks q) ≡ 7 ∷ 2 ∷ 7 ∷ []
-unfolding matrixOf listBelow wordAt wordOf markedSet marks
+termination : matrixOf 3 (λ p q. inRow terminating p ⇒ inRow terminating q) ≡ 7 ∷ 2 ∷ 7 ∷ []
+unfolding matrixOf listBelow wordAt wordOf inRow bit terminating
 termination = refl
 
 pairs : pairCount 3 (relationOf 3 (7 ∷ 2 ∷ 7 ∷ [])) ≡ 7

@@ -1,10 +1,7 @@
-pub mod Bounded
-pub mod Bits
-pub mod Rows
 pub mod Matrices
+pub mod Rows
 pub mod Counts
 pub mod Checks
 pub mod Transitivity
-pub mod Termination
 pub mod Computed
 pub mod Starts

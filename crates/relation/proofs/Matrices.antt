@@ -9,13 +9,14 @@ use native.Mathlib.Omega.{arith}
 use lib.Dec.{ltb, eqb}
 use lib.Arith.{digits-div, digits-mod, digits-lt}
 use lib.ListN.{length, getD, take, drop, length-append, List·getD-append, length-drop, drop-of-length-le}
-use lib.Seq.{getD-drop, getD-take, getD-append-add, length-take-le, take-at, drop-at, drop-drop, take-all}
+use lib.Seq.{getD-drop, getD-take, getD-append-add, length-take-le, take-at, drop-at, drop-drop}
 use borrow.Rule.Slice.PartMut.{putMid}
 use borrow.Author.Tests.{eqb-true, lt-ltb, le-ltb, eq-eqb, ne-eqb}
-use Rattle.relation.specs.Matrix.{bit, inRow, wordAt, rowOf, rowWords, statesBelow, inMatrix, relationOf, matrixWord, matrixOf, Matrix, setRow, rowsOf, Row, withoutStates}
+use Rattle.rows.specs.Rows.{bit, inRow, wordAt, rowOf, rowWords, statesBelow}
+use Rattle.relation.specs.Matrix.{inMatrix, relationOf, matrixWord, matrixOf, Matrix, setRow, rowsOf, withoutStates}
 use Rattle.lts.specs.Bounded.{listBelow}
-use Rattle.relation.proofs.Rows.{word-at, bit-wordAt, wordAt-lt}
-use Rattle.relation.proofs.Bounded.{lt-or-ge, length-listBelow, getD-listBelow, list-ext, listBelow-cong, listBelow-add}
+use Rattle.rows.proofs.Rows.{word-at, bit-wordAt, wordAt-lt, states-in, states-out, tail-part, tail-back}
+use Rattle.lts.proofs.Below.{lt-or-ge, length-listBelow, getD-listBelow, list-ext, listBelow-cong, listBelow-add}
 
 -- each element is a word
 abbrev pub Words : List ℕ → Type 0
@@ -66,12 +67,6 @@ relation-states n R p q hp hq =
     ap (λ (x : ℕ). bit x (q % 64)) (getD-matrixOf n R p (q / 64) hp (omega (arith, hq))) ∙ bit-wordAt (statesBelow n (R p)) (q / 64) (q % 64) low
     ∙ ap (statesBelow n (R p)) (div-add-mod' q 64)
 
-pub states-in : (n : ℕ) (S : ℕ → Bool) (q : ℕ) → q < n → statesBelow n S q ≡ S q
-states-in n S q h = rw (lt-ltb q n h)
-
-pub states-out : (n : ℕ) (S : ℕ → Bool) (q : ℕ) → n ≤ q → statesBelow n S q ≡ false
-states-out n S q h = rw (le-ltb q n h)
-
 pub relation-matrix : (n : ℕ) (R : ℕ → ℕ → Bool) (p q : ℕ) → p < n → q < n → relationOf n (matrixOf n R) p q ≡ R p q
 relation-matrix n R p q hp hq = relation-states n R p q hp (omega (arith, hq)) ∙ states-in n (R p) q hq
 
@@ -121,14 +116,6 @@ matrixOf-cong n R S same =
 
 -- ---- a part from a to the end that was lent, `&mut xs[a..]`, and came back as ys
 
-pub tail-part : (a : ℕ) (xs : List ℕ) → take (length xs - a) (drop a xs) ≡ drop a xs
-tail-part a xs = take-all (length xs - a) (drop a xs) (omega (arith, length-drop a xs))
-
-pub tail-back : (a : ℕ) (xs ys : List ℕ) → putMid a (length xs - a) xs ys ≡ take a xs ++ ys
-tail-back a xs ys =
-    ap (λ (l : List ℕ). take a xs ++ l)
-    (ap (λ (l : List ℕ). ys ++ l) (drop-of-length-le (drop a xs) {i = length xs - a} (omega (arith, length-drop a xs))) ∙ append-nil ys)
-
 -- row p of the matrix, as a part that starts at its first word
 pub inRow-part : (n p : ℕ) (g : List ℕ) (q : ℕ) → inRow (take (length g - p * rowWords n) (drop (p * rowWords n) g)) q ≡ relationOf n g p q
 inRow-part n p g q = ap (λ (l : List ℕ). inRow l q) (tail-part (p * rowWords n) g) ∙ inRow-drop (rowWords n) g p q
@@ -137,11 +124,11 @@ inRow-part n p g q = ap (λ (l : List ℕ). inRow l q) (tail-part (p * rowWords 
 pub row-room : (n w : ℕ) {p : ℕ} → p < n → p * w + w ≤ n * w
 row-room n w {p} h = subst (λ (k : ℕ). k ≤ n * w) (suc-mul p w) (mul-le-mul-right w h)
 
-pub row-fits : (n : ℕ) {p : ℕ} (g : List ℕ) → p < n → length g ≡ n * rowWords n → p * rowWords n + rowWords n ≤ length g
-row-fits n g h long = omega (arith, row-room n (rowWords n) h)
+pub row-fits : (n : ℕ) {p w : ℕ} (g : List ℕ) → w ≡ rowWords n → p < n → length g ≡ n * rowWords n → p * w + w ≤ length g
+row-fits n {p} g e h long = subst⁻¹ (λ (w : ℕ). p * w + w ≤ length g) e (omega (arith, row-room n (rowWords n) h))
 
 pub row-long : (n : ℕ) {p : ℕ} (g : List ℕ) → p < n → length g ≡ n * rowWords n → rowWords n ≤ length (drop (p * rowWords n) g)
-row-long n {p} g h long = omega (arith, row-fits n g h long, length-drop (p * rowWords n) g)
+row-long n {p} g h long = omega (arith, row-fits n g refl h long, length-drop (p * rowWords n) g)
 
 -- the word of a pair of states lies within the matrix
 pub pair-word : (n : ℕ) {p q : ℕ} (g : List ℕ) → p < n → q < n → length g ≡ n * rowWords n → p * rowWords n + q / 64 < length g
@@ -164,12 +151,11 @@ module _ (n : ℕ) (R : ℕ → ℕ → Bool) where
       ∙ listBelow-add (p * rowWords n) (rowWords n) _
       ∙ ap (λ (l : List ℕ). rowsTo p ++ l) (listBelow-cong (rowWords n) _ _ (λ c h. ap₂ (λ (a b : ℕ). wordAt (statesBelow n (R a)) b) (digits-div p h) (digits-mod p h)))
 
-  -- row p was lent from its first word to the matrix's end, and came back with its words written
-  pub rows-more : (d g ys : List ℕ) (p : ℕ) → g ≡ rowsTo p ++ drop (p * rowWords n) d
+  rows-step : (d g ys : List ℕ) (p : ℕ) → g ≡ rowsTo p ++ drop (p * rowWords n) d
       → ys ≡ rowOf (rowWords n) (statesBelow n (R p)) ++ drop (rowWords n) (take (length g - p * rowWords n) (drop (p * rowWords n) g))
       → putMid (p * rowWords n) (length g - p * rowWords n) g ys ≡ rowsTo (p + 1) ++ drop ((p + 1) * rowWords n) d
   unfolding rowsTo
-  rows-more d g ys p now last =
+  rows-step d g ys p now last =
       let w = rowWords n in
       let long : length (rowsTo p) ≡ p * w = length-listBelow (p * w) _ in
       let rest : drop (p * w) g ≡ drop (p * w) d = ap (drop (p * w)) now ∙ drop-at (rowsTo p) (drop (p * w) d) (p * w) long in
@@ -179,6 +165,14 @@ module _ (n : ℕ) (R : ℕ → ℕ → Bool) where
       (last ∙ ap (λ (l : List ℕ). rowOf w (statesBelow n (R p)) ++ drop w l) (tail-part (p * w) g ∙ rest))
       ∙ sym (append-assoc (rowsTo p) (rowOf w (statesBelow n (R p))) (drop w (drop (p * w) d)))
       ∙ ap₂ (λ (a b : List ℕ). a ++ b) (sym (rows-suc p)) (drop-drop w (p * w) d ∙ ap (λ (k : ℕ). drop k d) next)
+
+  -- row p was lent from its first word to the matrix's end, and came back with its words written
+  pub rows-more : {w : ℕ} → w ≡ rowWords n → (d g ys : List ℕ) (p : ℕ) → g ≡ rowsTo p ++ drop (p * rowWords n) d
+      → ys ≡ rowOf w (statesBelow n (R p)) ++ drop w (take (length g - p * w) (drop (p * w) g))
+      → putMid (p * w) (length g - p * w) g ys ≡ rowsTo (p + 1) ++ drop ((p + 1) * rowWords n) d
+  rows-more e d g ys p now =
+      subst⁻¹ (λ (w : ℕ). ys ≡ rowOf w (statesBelow n (R p)) ++ drop w (take (length g - p * w) (drop (p * w) g))
+      → putMid (p * w) (length g - p * w) g ys ≡ rowsTo (p + 1) ++ drop ((p + 1) * rowWords n) d) e (rows-step d g ys p now)
 
   pub rows-done : (d g : List ℕ) (p : ℕ) → g ≡ rowsTo p ++ drop (p * rowWords n) d → length d ≡ n * rowWords n → p ≡ n → g ≡ matrixOf n R
   unfolding rowsTo matrixOf
@@ -251,11 +245,10 @@ module _ (n p : ℕ) (g : List ℕ) (S : ℕ → Bool) (ok : Matrix n g) (words 
       (eq-or-lt-of-le h))
       (lt-or-ge t p)
 
-  -- row p was lent from its first word to the matrix's end, and came back with its words written
-  pub row-written : (ys : List ℕ) → ys ≡ rowOf (rowWords n) S ++ drop (rowWords n) (take (length g - p * rowWords n) (drop (p * rowWords n) g))
+  written : (ys : List ℕ) → ys ≡ rowOf (rowWords n) S ++ drop (rowWords n) (take (length g - p * rowWords n) (drop (p * rowWords n) g))
       → putMid (p * rowWords n) (length g - p * rowWords n) g ys ≡ matrixOf n (setRow p S (relationOf n g))
   unfolding put
-  row-written ys last =
+  written ys last =
       tail-back (p * rowWords n) g ys
       ∙ ap (λ (l : List ℕ). take (p * rowWords n) g ++ l) (last ∙ ap (λ (l : List ℕ). rowOf (rowWords n) S ++ drop (rowWords n) l) (tail-part (p * rowWords n) g))
       ∙ matrix-ext n (setRow p S (relationOf n g)) (put _ _ g S in-matrix) (length-put _ _ g S in-matrix ∙ ok .long) (words-put _ _ g S in-matrix words)
@@ -267,15 +260,25 @@ module _ (n p : ℕ) (g : List ℕ) (S : ℕ → Bool) (ok : Matrix n g) (words 
       none true e f = e
       none false e f = f
 
+  -- row p was lent from its first word to the matrix's end, and came back with its words written
+  pub row-written : {w : ℕ} → w ≡ rowWords n → (ys : List ℕ) → ys ≡ rowOf w S ++ drop w (take (length g - p * w) (drop (p * w) g))
+      → putMid (p * w) (length g - p * w) g ys ≡ matrixOf n (setRow p S (relationOf n g))
+  row-written e ys =
+      subst⁻¹ (λ (w : ℕ). ys ≡ rowOf w S ++ drop w (take (length g - p * w) (drop (p * w) g))
+      → putMid (p * w) (length g - p * w) g ys ≡ matrixOf n (setRow p S (relationOf n g))) e (written ys)
+
 -- row p was lent so, and came back as what β makes of it and of the set M
-pub row-zipped : (n p : ℕ) (g : List ℕ) (β : Bool → Bool → Bool) (M : ℕ → Bool) → ((b : Bool) → β false b ≡ false) → Matrix n g → Words g → p < n → (ys : List ℕ)
-    → ys ≡ rowOf (rowWords n) (λ q. β (inRow (take (length g - p * rowWords n) (drop (p * rowWords n) g)) q) (M q))
-    ++ drop (rowWords n) (take (length g - p * rowWords n) (drop (p * rowWords n) g))
-    → putMid (p * rowWords n) (length g - p * rowWords n) g ys ≡ matrixOf n (setRow p (λ q. β (relationOf n g p q) (M q)) (relationOf n g))
-row-zipped n p g β M none ok words hp ys last =
-    row-written n p g (λ q. β (inRow (take (length g - p * rowWords n) (drop (p * rowWords n) g)) q) (M q)) ok words hp
-    (λ q h l. ap (λ (b : Bool). β b (M q)) (inRow-part n p g q ∙ ok .clear p q hp h l) ∙ none (M q)) ys last
-    ∙ matrixOf-cong n _ _ (λ t q ht hq. ap (λ (b : Bool). cond (eqb t p) (β b (M q)) (relationOf n g t q)) (inRow-part n p g q))
+pub row-zipped : (n p : ℕ) (g : List ℕ) (β : Bool → Bool → Bool) (M : ℕ → Bool) → ((b : Bool) → β false b ≡ false) → Matrix n g → Words g → p < n
+    → {w : ℕ} → w ≡ rowWords n → (ys : List ℕ)
+    → ys ≡ rowOf w (λ q. β (inRow (take (length g - p * w) (drop (p * w) g)) q) (M q)) ++ drop w (take (length g - p * w) (drop (p * w) g))
+    → putMid (p * w) (length g - p * w) g ys ≡ matrixOf n (setRow p (λ q. β (relationOf n g p q) (M q)) (relationOf n g))
+row-zipped n p g β M none ok words hp {w} e ys last =
+    row-written n p g (λ q. β (inRow (take (length g - p * w) (drop (p * w) g)) q) (M q)) ok words hp
+    (λ q h l. ap (λ (b : Bool). β b (M q)) (part q ∙ ok .clear p q hp h l) ∙ none (M q)) e ys last
+    ∙ matrixOf-cong n _ _ (λ t q ht hq. ap (λ (b : Bool). cond (eqb t p) (β b (M q)) (relationOf n g t q)) (part q))
+  where
+    part : (q : ℕ) → inRow (take (length g - p * w) (drop (p * w) g)) q ≡ relationOf n g p q
+    part q = ap (λ (k : ℕ). inRow (take (length g - p * k) (drop (p * k) g)) q) e ∙ inRow-part n p g q
 
 pub without-row : (p : ℕ) (M : ℕ → Bool) (R : ℕ → ℕ → Bool) (t q : ℕ) → setRow p (λ q. R p q && not (M q)) R t q ≡ withoutStates p M R t q
 without-row p M R t q = go (eqb t p) refl
@@ -289,12 +292,11 @@ without-row p M R t q = go (eqb t p) refl
     go false e = keep (R t q)
 
 -- row p was lent so, and came back without the set M
-pub row-removed : (n p : ℕ) (g : List ℕ) (M : ℕ → Bool) → Matrix n g → Words g → p < n → (ys : List ℕ)
-    → ys ≡ rowOf (rowWords n) (λ q. inRow (take (length g - p * rowWords n) (drop (p * rowWords n) g)) q && not (M q))
-    ++ drop (rowWords n) (take (length g - p * rowWords n) (drop (p * rowWords n) g))
-    → putMid (p * rowWords n) (length g - p * rowWords n) g ys ≡ matrixOf n (withoutStates p M (relationOf n g))
-row-removed n p g M ok words hp ys last =
-    row-zipped n p g (λ a b. a && not b) M (λ b. refl) ok words hp ys last ∙ matrixOf-cong n _ _ (λ t q ht hq. without-row p M (relationOf n g) t q)
+pub row-removed : (n p : ℕ) (g : List ℕ) (M : ℕ → Bool) → Matrix n g → Words g → p < n → {w : ℕ} → w ≡ rowWords n → (ys : List ℕ)
+    → ys ≡ rowOf w (λ q. inRow (take (length g - p * w) (drop (p * w) g)) q && not (M q)) ++ drop w (take (length g - p * w) (drop (p * w) g))
+    → putMid (p * w) (length g - p * w) g ys ≡ matrixOf n (withoutStates p M (relationOf n g))
+row-removed n p g M ok words hp e ys last =
+    row-zipped n p g (λ a b. a && not b) M (λ b. refl) ok words hp e ys last ∙ matrixOf-cong n _ _ (λ t q ht hq. without-row p M (relationOf n g) t q)
 
 -- the row p that was set, and any other
 pub set-here : (p : ℕ) (S : ℕ → Bool) (R : ℕ → ℕ → Bool) (q : ℕ) → setRow p S R p q ≡ S q

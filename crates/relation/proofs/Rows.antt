@@ -1,242 +1,101 @@
--- Laws of lists given by a function, and of rows of words. Assumes nothing.
-use mathlib.Core.Path.{_≡_, refl, sym, ap, ap₂, _∙_}
-use mathlib.Core.Bool.{Bool, true, false, not, _&&_, _||_, xor}
-use mathlib.Core.Logic.{_⊎_, inl, inr, ⊎-elim}
+-- Laws of a matrix's rows: a row that is copied into a set or put together with one, and rows that are changed one after the other. Assumes nothing.
+use mathlib.Core.Path.{_≡_, refl, sym, ap, _∙_}
+use mathlib.Core.Bool.{Bool, true, false, not, _&&_, cond, and-true}
 use mathlib.Core.List.{List, _++_}
-use Prim.Native.Nat.{ℕ, zero, suc, _+_, _-_, _*_, _/_, _%_, _^_, _≤_, _<_}
-use native.Mathlib.Nat.{div-add-mod', mod-lt, eq-or-lt-of-le}
+use mathlib.Core.Logic.{⊎-elim}
+use Prim.Native.Nat.{ℕ, _+_, _*_, _≤_, _<_}
 use native.Mathlib.Omega.{arith}
-use lib.Bits.{bitAnd, bitOr, bitXor, and-lt, or-lt, xor-lt, and-le-l}
-use lib.Arith.{digits-div, digits-mod}
-use lib.ListN.{length, replicate, getD-replicate, List·getD-append, getD, set, drop, length-set, length-append, length-drop}
-use lib.Seq.{getD-drop, getD-append-add, getD-set-same, getD-set-other}
-use lib.Dec.{eqb}
-use lib.Pow.{pow-pos}
-use borrow.Author.Tests.{eq-eqb, ne-eqb}
-use Rattle.lts.specs.Bounded.{anyBelow}
-use Rattle.relation.specs.Matrix.{bit, inRow, wordAt, rowOf}
-use Rattle.relation.proofs.Bits.{bit-of-zero, word-ext, wordOf-lt, bit-wordOf, bit-and, bit-or, bit-xor, bit-not, bit-pow, one-shl}
-use Rattle.relation.proofs.Bounded.{any-more, listBelow-cong, getD-listBelow, length-listBelow, fill-more, getD-fill, list-ext, lt-or-ge}
+use lib.ListN.{length, getD, drop}
+use lib.Dec.{ltb}
+use borrow.Author.Tests.{le-ltb, lt-ltb}
+use Rattle.lts.specs.Bounded.{_⇒_}
+use Rattle.lts.specs.System.{Set, Rel}
+use Rattle.rows.specs.Rows.{inRow, rowOf, rowWords, statesBelow, Next}
+use Rattle.relation.specs.Matrix.{relationOf, matrixOf, Matrix, setRow, withoutStates, rowsOf}
+use Rattle.lts.proofs.Below.{lt-or-ge}
+use Rattle.rows.proofs.Rows.{set-words, rowOf-cong, inRow-of, inRow-written, states-in, states-out}
+use Rattle.relation.proofs.Matrices.{inRow-drop, row-long, matrixOf-cong, relation-of, set-here, set-other, without-row, done-more, done-none}
 
--- ---- a row of words
+-- row p of a matrix, copied into words that are 0
+pub copied-row : (n p : ℕ) (g row d : List ℕ) {w : ℕ} → w ≡ rowWords n → n ≤ 256 → Matrix n g → p < n → length d ≡ 4 → ((j : ℕ) → getD d j 0 ≡ 0)
+    → row ≡ drop (p * rowWords n) g → rowOf w (inRow row) ++ drop w d ≡ rowOf 4 (statesBelow n (relationOf n g p))
+copied-row n p g row d {w} e small ok hp long zero at =
+    set-words 4 w (inRow row) (statesBelow n (relationOf n g p)) d (omega arith) long zero
+    (λ q h. ap (λ (l : List ℕ). inRow l q) at ∙ inRow-drop (rowWords n) g p q
+    ∙ ⊎-elim (λ (l : q < n). sym (states-in n (relationOf n g p) q l))
+    (λ (l : n ≤ q). ok .clear p q hp l (omega (arith, h, e)) ∙ sym (states-out n (relationOf n g p) q l)) (lt-or-ge q n))
+    (λ q h. states-out n (relationOf n g p) q (omega arith))
 
-pub inRow-at : (row : List ℕ) (c i : ℕ) → i < 64 → inRow row (c * 64 + i) ≡ bit (getD row c 0) i
-unfolding inRow
-inRow-at row c i h = rw (digits-div c h, digits-mod c h)
+-- ---- a row of a matrix, as a part that starts at its first word, and a set that it is put together with
 
--- a word whose bits are those of S at c is word c of S
-pub word-at : (S : ℕ → Bool) (c : ℕ) {x : ℕ} → x < 2 ^ 64 → ((i : ℕ) → i < 64 → bit x i ≡ S (c * 64 + i)) → x ≡ wordAt S c
-unfolding wordAt
-word-at S c h e = word-ext 64 (λ i. S (c * 64 + i)) h e
+pub row-words : (n : ℕ) {p w : ℕ} (g : List ℕ) {row : List ℕ} → w ≡ rowWords n → row ≡ drop (p * rowWords n) g → p < n → Matrix n g → w ≤ length row
+row-words n {p} g width e hp ok = omega (arith, width, ap length e, row-long n {p = p} g hp (ok .long))
 
-pub bit-wordAt : (S : ℕ → Bool) (c i : ℕ) → i < 64 → bit (wordAt S c) i ≡ S (c * 64 + i)
-unfolding wordAt
-bit-wordAt S c i h = bit-wordOf 64 (λ i. S (c * 64 + i)) i h
+pub zipped-row : (n p : ℕ) (g : List ℕ) (β : Bool → Bool → Bool) (d : List ℕ) {row d′ : List ℕ} {w : ℕ} → w ≡ rowWords n → row ≡ drop (p * rowWords n) g
+    → d′ ≡ rowOf w (λ q. β (inRow d q) (inRow row q)) ++ drop w d → (q : ℕ) → q < n → inRow d′ q ≡ β (inRow d q) (relationOf n g p q)
+zipped-row n p g β d {row} {w = w} width at e q h =
+    ap (λ (l : List ℕ). inRow l q) e ∙ inRow-written w (λ q. β (inRow d q) (inRow row q)) (drop w d) q (omega (arith, h, width))
+    ∙ ap (β (inRow d q)) (ap (λ (l : List ℕ). inRow l q) at ∙ inRow-drop (rowWords n) g p q)
 
-pub wordAt-lt : (S : ℕ → Bool) (c : ℕ) → wordAt S c < 2 ^ 64
-unfolding wordAt
-wordAt-lt S c = wordOf-lt 64 (λ i. S (c * 64 + i))
+-- ---- a matrix whose rows are changed one after the other
 
--- the members of the words of a set, and of a row with its first words written
-pub inRow-of : (k : ℕ) (S : ℕ → Bool) (q : ℕ) → q < k * 64 → inRow (rowOf k S) q ≡ S q
-unfolding inRow
-inRow-of k S q h =
-    ap (λ (x : ℕ). bit x (q % 64)) (getD-listBelow k (wordAt S) (q / 64) (omega arith)) ∙ bit-wordAt S (q / 64) (q % 64) (mod-lt q (omega arith)) ∙ ap S (div-add-mod' q 64)
+-- rows that N leaves as R has them may be passed over
+module _ (n : ℕ) (N R : Rel) (g g′ : ℕ) where
+  pub rows-skip : g ≤ g′ → ((t q : ℕ) → t < n → q < n → g ≤ t → t < g′ → R t q ≡ N t q) → matrixOf n (rowsOf g N R) ≡ matrixOf n (rowsOf g′ N R)
+  rows-skip le same = matrixOf-cong n _ _ (λ t q ht hq.
+      ⊎-elim
+      (λ (h : t < g). ap (λ (b : Bool). cond b (N t q) (R t q)) (lt-ltb t g h ∙ sym (lt-ltb t g′ (omega arith))))
+      (λ (h : g ≤ t). ap (λ (b : Bool). cond b (N t q) (R t q)) (le-ltb t g h)
+      ∙ ⊎-elim
+      (λ (l : t < g′). same t q ht hq h l ∙ sym (ap (λ (b : Bool). cond b (N t q) (R t q)) (lt-ltb t g′ l)))
+      (λ (l : g′ ≤ t). sym (ap (λ (b : Bool). cond b (N t q) (R t q)) (le-ltb t g′ l)))
+      (lt-or-ge t g′))
+      (lt-or-ge t g))
 
-pub inRow-written : (k : ℕ) (S : ℕ → Bool) (rest : List ℕ) (q : ℕ) → q < k * 64 → inRow (rowOf k S ++ rest) q ≡ S q
-unfolding inRow
-inRow-written k S rest q h =
-    ap (λ (x : ℕ). bit x (q % 64)) (List·getD-append (rowOf k S) rest 0 (q / 64) (omega (arith, length-listBelow k (wordAt S)))) ∙ inRow-of k S q h
+  pub rows-end : n ≤ g → matrixOf n (rowsOf g N R) ≡ matrixOf n N
+  rows-end h = matrixOf-cong n _ _ (λ t q ht hq. ap (λ (b : Bool). cond b (N t q) (R t q)) (lt-ltb t g (omega arith)))
 
-pub inRow-rest : (k : ℕ) (S : ℕ → Bool) (d : List ℕ) (q : ℕ) → k * 64 ≤ q → k ≤ length d → inRow (rowOf k S ++ drop k d) q ≡ inRow d q
-unfolding inRow
-inRow-rest k S d q h l =
-    let split : q / 64 ≡ length (rowOf k S) + (q / 64 - k) = omega (arith, length-listBelow k (wordAt S)) in
-    let back : k + (q / 64 - k) ≡ q / 64 = omega arith in
-    ap (λ (x : ℕ). bit x (q % 64))
-    (ap (λ (j : ℕ). getD (rowOf k S ++ drop k d) j 0) split ∙ getD-append-add (rowOf k S) (drop k d) (q / 64 - k) 0 ∙ getD-drop k d (q / 64 - k) 0 ∙ ap (λ (j : ℕ). getD d j 0) back)
+-- from one row of `rows` to the next, where N has the other rows as R has them
+module _ (n : ℕ) (N R : Rel) (rows : Set) (same : (t q : ℕ) → t < n → q < n → rows t ≡ false → R t q ≡ N t q) where
+  pub rows-next : (bound g g′ : ℕ) → Next rows bound g g′ → matrixOf n (rowsOf g N R) ≡ matrixOf n (rowsOf g′ N R)
+  rows-next bound g g′ next = rows-skip n N R g g′ (next .above) (λ t q ht hq l h. same t q ht hq (next .none t l h))
 
--- such a row is as long as it was
-pub length-written : (k : ℕ) (S : ℕ → Bool) (d : List ℕ) → k ≤ length d → length (rowOf k S ++ drop k d) ≡ length d
-length-written k S d l = simp (length-append, length-listBelow, length-drop) (omega arith)
+  pub rows-first : (bound g : ℕ) → Next rows bound 0 g → matrixOf n R ≡ matrixOf n (rowsOf g N R)
+  rows-first bound g next = done-none n N R ∙ rows-next bound 0 g next
 
--- words of zeros
-pub getD-zeros : (k j : ℕ) → getD (replicate {A = ℕ} k 0) j 0 ≡ 0
-getD-zeros zero j = refl
-getD-zeros (suc k) zero = refl
-getD-zeros (suc k) (suc j) = getD-zeros k j
+-- a matrix l that has the new rows N below g, and the rows of R from g on: what follows where row g becomes N's too
+module _ (n : ℕ) (N R : Rel) (g : ℕ) (l : List ℕ) (hg : g < n) (now : l ≡ matrixOf n (rowsOf g N R)) where
+  row-unchanged : (q : ℕ) → q < n → relationOf n l g q ≡ R g q
+  row-unchanged q hq = relation-of n (rowsOf g N R) now g q hg hq ∙ ap (λ (b : Bool). cond b (N g q) (R g q)) (le-ltb g g (omega arith))
 
-pub inRow-zeros : (k q : ℕ) → inRow (replicate k 0) q ≡ false
-unfolding inRow
-inRow-zeros k q = ap (λ (x : ℕ). bit x (q % 64)) (getD-zeros k (q / 64)) ∙ bit-of-zero (q % 64)
+  pub row-left : ((q : ℕ) → q < n → R g q ≡ N g q) → l ≡ matrixOf n (rowsOf (g + 1) N R)
+  row-left same = now ∙ done-more n N R g (rowsOf g N R) (λ t q ht hq ne. refl)
+      (λ q hq. ap (λ (b : Bool). cond b (N g q) (R g q)) (le-ltb g g (omega arith)) ∙ same q hq)
 
-pub inRow-ones : (k q : ℕ) → q < k * 64 → inRow (replicate k 18446744073709551615) q ≡ true
-unfolding inRow
-inRow-ones k q h =
-    ap (λ (x : ℕ). bit x (q % 64)) (getD-replicate k (q / 64) 18446744073709551615 0 (omega arith))
-    ∙ bit-not 64 0 (q % 64) (mod-lt q (omega arith)) (pow-pos 64) ∙ ap not (bit-of-zero (q % 64))
+  pub row-set : (S : Set) → ((q : ℕ) → q < n → S q ≡ N g q) → matrixOf n (setRow g S (relationOf n l)) ≡ matrixOf n (rowsOf (g + 1) N R)
+  row-set S same = done-more n N R g (setRow g S (relationOf n l))
+      (λ t q ht hq ne. set-other g S (relationOf n l) t q ne ∙ relation-of n (rowsOf g N R) now t q ht hq)
+      (λ q hq. set-here g S (relationOf n l) q ∙ same q hq)
 
--- words of the same members are the same
-pub rowOf-cong : (k : ℕ) (A B : ℕ → Bool) → ((q : ℕ) → q < k * 64 → A q ≡ B q) → rowOf k A ≡ rowOf k B
-rowOf-cong k A B e = listBelow-cong k _ _ (λ c h. word-at B c (wordAt-lt A c) (λ i l. bit-wordAt A c i l ∙ e (c * 64 + i) (omega arith)))
+  pub row-kept : (M : Set) → ((q : ℕ) → q < n → R g q && M q ≡ N g q)
+      → matrixOf n (setRow g (λ q. relationOf n l g q && M q) (relationOf n l)) ≡ matrixOf n (rowsOf (g + 1) N R)
+  row-kept M same = row-set (λ q. relationOf n l g q && M q) (λ q hq. ap (λ (b : Bool). b && M q) (row-unchanged q hq) ∙ same q hq)
 
-pub row-ext : (k : ℕ) (S : ℕ → Bool) (row : List ℕ) → length row ≡ k → ((j : ℕ) → getD row j 0 < 2 ^ 64) → ((q : ℕ) → q < k * 64 → inRow row q ≡ S q) → row ≡ rowOf k S
-row-ext k S row long words same =
-    list-ext k (wordAt S) row long (λ c h. word-at S c (words c) (λ i l. sym (inRow-at row c i l) ∙ same (c * 64 + i) (omega arith)))
+  pub row-without : (M : Set) → ((q : ℕ) → q < n → R g q && not (M q) ≡ N g q)
+      → matrixOf n (withoutStates g M (relationOf n l)) ≡ matrixOf n (rowsOf (g + 1) N R)
+  row-without M same = sym (matrixOf-cong n _ _ (λ t q ht hq. without-row g M (relationOf n l) t q)) ∙ row-kept (λ q. not (M q)) same
 
--- ---- a loop that fills a row word by word: after c turns the row is `rowOf c S ++ drop c d`
+-- ---- rows of all states, and the rows of the members
 
-module _ (S : ℕ → Bool) (d row : List ℕ) (c : ℕ) (now : row ≡ rowOf c S ++ drop c d) where
-  pub row-unread : getD row c 0 ≡ getD d c 0
-  row-unread = ap (λ (l : List ℕ). getD l c 0) now ∙ getD-fill c (wordAt S) d
+-- the set of all states, copied into a row
+pub all-row : (n : ℕ) (all : List ℕ) {w : ℕ} → w ≡ rowWords n → n ≤ 256 → all ≡ rowOf 4 (λ q. ltb q n) → rowOf w (inRow all) ≡ rowOf w (statesBelow n (λ q. true))
+all-row n all {w} width small is =
+    rowOf-cong w _ _ (λ q h. ap (λ (l : List ℕ). inRow l q) is ∙ inRow-of 4 (λ q. ltb q n) q (omega (arith, h, width, small)) ∙ sym (and-true (ltb q n)))
 
-  pub row-store : {x : ℕ} → c < length d → x ≡ wordAt S c → set row c x ≡ rowOf (c + 1) S ++ drop (c + 1) d
-  row-store {x} l e = ap (λ (l : List ℕ). set l c x) now ∙ fill-more c (wordAt S) d l e
-
-  pub row-more : {x : ℕ} → c < length d → x < 2 ^ 64 → ((i : ℕ) → i < 64 → bit x i ≡ S (c * 64 + i)) → set row c x ≡ rowOf (c + 1) S ++ drop (c + 1) d
-  row-more l h e = row-store l (word-at S c h e)
-
-  pub row-done : {k : ℕ} → c ≡ k → row ≡ rowOf k S ++ drop k d
-  row-done e = now ∙ ap (λ (m : ℕ). rowOf m S ++ drop m d) e
-
--- a row that has no state in its first c words, nor in the t lowest bits of word c
-pub row-before : (row : List ℕ) (c t : ℕ) → t ≤ 64 → ((q : ℕ) → q < c * 64 → inRow row q ≡ false) → ((i : ℕ) → i < t → bit (getD row c 0) i ≡ false)
-    → (q : ℕ) → q < c * 64 + t → inRow row q ≡ false
-row-before row c t small below here q h =
-    ⊎-elim (λ (l : q < c * 64). below q l)
-    (λ (l : c * 64 ≤ q).
-    let split : q ≡ c * 64 + (q - c * 64) = omega arith in
-    ap (inRow row) split ∙ inRow-at row c (q - c * 64) (omega arith) ∙ here (q - c * 64) (omega arith))
-    (lt-or-ge q (c * 64))
-
--- ---- an operation on words that goes bit by bit, and what it makes of two rows
-
-pub record Bitwise (op : ℕ → ℕ → ℕ) (β : Bool → Bool → Bool) : Type 0 where
-  pub small : (x y : ℕ) → x < 2 ^ 64 → y < 2 ^ 64 → op x y < 2 ^ 64
-  pub bits : (x y i : ℕ) → x < 2 ^ 64 → y < 2 ^ 64 → i < 64 → bit (op x y) i ≡ β (bit x i) (bit y i)
-
-pub and-bitwise : Bitwise bitAnd _&&_
-and-bitwise = record { small = λ x y hx hy. and-lt 64 x y hx hy; bits = λ x y i hx hy l. bit-and x y i }
-
-pub or-bitwise : Bitwise bitOr _||_
-or-bitwise = record { small = λ x y hx hy. or-lt 64 x y hx hy; bits = λ x y i hx hy l. bit-or x y i }
-
-pub xor-bitwise : Bitwise bitXor xor
-xor-bitwise = record { small = λ x y hx hy. xor-lt 64 x y hx hy; bits = λ x y i hx hy l. bit-xor x y i }
-
--- the first operand
-pub left-bitwise : Bitwise (λ x y. x) (λ a b. a)
-left-bitwise = record { small = λ x y hx hy. hx; bits = λ x y i hx hy l. refl }
-
-pub minus-bitwise : Bitwise (λ x y. bitAnd x ((2 ^ 64 - 1) - y)) (λ a b. a && not b)
-minus-bitwise = record {
-  small = λ x y hx hy. omega (arith, and-le-l x ((2 ^ 64 - 1) - y));
-  bits = λ x y i hx hy l. bit-and x ((2 ^ 64 - 1) - y) i ∙ ap (λ (b : Bool). bit x i && b) (bit-not 64 y i l hy);
-}
-
--- a turn whose word y has the bits of the set M
-pub zip-word : (op : ℕ → ℕ → ℕ) (β : Bool → Bool → Bool) → Bitwise op β → (M : ℕ → Bool) (d row : List ℕ) (c : ℕ) {y : ℕ}
-    → row ≡ rowOf c (λ q. β (inRow d q) (M q)) ++ drop c d → c < length d → getD row c 0 < 2 ^ 64 → y < 2 ^ 64 → ((i : ℕ) → i < 64 → bit y i ≡ M (c * 64 + i))
-    → set row c (op (getD row c 0) y) ≡ rowOf (c + 1) (λ q. β (inRow d q) (M q)) ++ drop (c + 1) d
-zip-word op β ok M d row c now l hr hy bits =
-    row-more _ d row c now l (ok .small _ _ hr hy) (λ i h.
-    ok .bits _ _ i hr hy h ∙ ap₂ β (ap (λ (x : ℕ). bit x i) (row-unread _ d row c now) ∙ sym (inRow-at d c i h)) (bits i h))
-
-pub zip-more : (op : ℕ → ℕ → ℕ) (β : Bool → Bool → Bool) → Bitwise op β → (d mask row : List ℕ) (c : ℕ)
-    → row ≡ rowOf c (λ q. β (inRow d q) (inRow mask q)) ++ drop c d → c < length d → getD row c 0 < 2 ^ 64 → getD mask c 0 < 2 ^ 64
-    → set row c (op (getD row c 0) (getD mask c 0)) ≡ rowOf (c + 1) (λ q. β (inRow d q) (inRow mask q)) ++ drop (c + 1) d
-zip-more op β ok d mask row c now l hr hm = zip-word op β ok (inRow mask) d row c now l hr hm (λ i h. sym (inRow-at mask c i h))
-
--- the words of two rows, joined
-pub zip-joined : (op : ℕ → ℕ → ℕ) (β : Bool → Bool → Bool) → Bitwise op β → (a b : List ℕ) (c : ℕ) → getD a c 0 < 2 ^ 64 → getD b c 0 < 2 ^ 64
-    → (i : ℕ) → i < 64 → bit (op (getD a c 0) (getD b c 0)) i ≡ β (inRow a (c * 64 + i)) (inRow b (c * 64 + i))
-zip-joined op β ok a b c ha hb i l = ok .bits _ _ i ha hb l ∙ sym (ap₂ β (inRow-at a c i l) (inRow-at b c i l))
-
--- ---- a row of which word q / 64 is written anew: S is the row's set but at q
-
-same : (a b : ℕ) → (a ≡ b) ⊎ (a ≡ b → ⊥)
-same a b = ⊎-elim (λ (l : a < b). inr (λ e. omega arith)) (λ (l : b ≤ a). ⊎-elim (λ e. inl (sym e)) (λ (m : b < a). inr (λ e. omega arith)) (eq-or-lt-of-le l)) (lt-or-ge a b)
-
-pub row-change : (row : List ℕ) (q v : ℕ) (S : ℕ → Bool) → q / 64 < length row → ((j : ℕ) → getD row j 0 < 2 ^ 64)
-    → ((x : ℕ) → (x ≡ q → ⊥) → S x ≡ inRow row x) → v < 2 ^ 64 → ((i : ℕ) → i < 64 → bit v i ≡ S (q / 64 * 64 + i))
-    → set row (q / 64) v ≡ rowOf (length row) S
-row-change row q v S h words others small bits =
-    list-ext (length row) (wordAt S) (set row (q / 64) v) (length-set row (q / 64) v) (λ j l.
-    ⊎-elim (λ (e : j ≡ q / 64). ap (λ (k : ℕ). getD (set row (q / 64) v) k 0) e ∙ getD-set-same row (q / 64) v 0 h ∙ word-at S (q / 64) small bits ∙ ap (wordAt S) (sym e))
-    (λ (ne : j ≡ q / 64 → ⊥). getD-set-other row (q / 64) j v 0 ne ∙ word-at S j (words j) (λ i k.
-    sym (inRow-at row j i k) ∙ sym (others (j * 64 + i) (λ e. ne (omega arith))))) (same j (q / 64)))
-
--- ---- one state more in a row, or one less: `row[q / 64] | 1 << q % 64`, `row[q / 64] & !(1 << q % 64)`
-
-module _ (row : List ℕ) (q : ℕ) (h : q / 64 < length row) (words : (j : ℕ) → getD row j 0 < 2 ^ 64) where
-  abbrev word : ℕ
-  word = getD row (q / 64) 0
-
-  abbrev one : ℕ
-  one = 1 * 2 ^ (q % 64) % 2 ^ 64
-
-  one-small : one < 2 ^ 64
-  one-small = mod-lt (1 * 2 ^ (q % 64)) (pow-pos 64)
-
-  bit-one : (i : ℕ) → i < 64 → bit one i ≡ eqb (q / 64 * 64 + i) q
-  bit-one i l =
-      ap (λ (x : ℕ). bit x i) (one-shl (q % 64) (mod-lt q (omega arith))) ∙ bit-pow (q % 64) i
-      ∙ ⊎-elim (λ (e : i ≡ q % 64). eq-eqb i (q % 64) e ∙ sym (eq-eqb (q / 64 * 64 + i) q (omega arith)))
-      (λ ne. ne-eqb i (q % 64) ne ∙ sym (ne-eqb (q / 64 * 64 + i) q (λ e. ne (omega arith)))) (same i (q % 64))
-
-  pub row-insert : set row (q / 64) (bitOr word one) ≡ rowOf (length row) (λ x. eqb x q || inRow row x)
-  row-insert = row-change row q (bitOr word one) _ h words (λ x ne. ap (λ (b : Bool). b || inRow row x) (ne-eqb x q ne)) (or-lt 64 _ _ (words (q / 64)) one-small) (λ i l.
-      bit-or word one i ∙ ap₂ _||_ (sym (inRow-at row (q / 64) i l)) (bit-one i l) ∙ swap (inRow row (q / 64 * 64 + i)) (eqb (q / 64 * 64 + i) q))
-    where
-      swap : (a b : Bool) → a || b ≡ b || a
-      swap true true = refl
-      swap true false = refl
-      swap false true = refl
-      swap false false = refl
-
-or-false : (b : Bool) → b || false ≡ b
-or-false true = refl
-or-false false = refl
-
--- ---- a set that is gathered turn by turn: after j turns the row has what it had, and each q with H q i for an i below j
-
-module _ (d : List ℕ) (H : ℕ → ℕ → Bool) where
-  abbrev pub gathered : ℕ → List ℕ
-  gathered j = rowOf (length d) (λ q. inRow d q || anyBelow j (H q))
-
-  pub gather-none : ((j : ℕ) → getD d j 0 < 2 ^ 64) → d ≡ gathered 0
-  unfolding anyBelow
-  gather-none words = row-ext (length d) _ d refl words (λ q h. sym (or-false (inRow d q)))
-
-  -- turn j puts s in, and no other state
-  pub gather-in : (j s : ℕ) {row : List ℕ} → row ≡ gathered j → ((q : ℕ) → H q j ≡ eqb q s) → rowOf (length row) (λ x. eqb x s || inRow row x) ≡ gathered (j + 1)
-  gather-in j s {row} now this =
-      ap (λ (k : ℕ). rowOf k (λ x. eqb x s || inRow row x)) (ap length now ∙ length-listBelow (length d) (wordAt (λ q. inRow d q || anyBelow j (H q))))
-      ∙ rowOf-cong (length d) _ _ (λ q h.
-      ap (λ (b : Bool). eqb q s || b) (ap (λ (l : List ℕ). inRow l q) now ∙ inRow-of (length d) _ q h)
-      ∙ turn (eqb q s) (inRow d q) (anyBelow j (H q))
-      ∙ ap (λ (b : Bool). inRow d q || b) (ap (λ (b : Bool). anyBelow j (H q) || b) (sym (this q)) ∙ sym (any-more (H q) j)))
-    where
-      turn : (a b c : Bool) → a || (b || c) ≡ b || (c || a)
-      turn true true c = refl
-      turn true false true = refl
-      turn true false false = refl
-      turn false true c = refl
-      turn false false c = sym (or-false c)
-
-  -- turn j puts nothing in
-  pub gather-out : (j : ℕ) {row : List ℕ} → row ≡ gathered j → ((q : ℕ) → H q j ≡ false) → row ≡ gathered (j + 1)
-  gather-out j now this =
-      now ∙ rowOf-cong (length d) _ _ (λ q h.
-      ap (λ (b : Bool). inRow d q || b) (sym (or-false (anyBelow j (H q))) ∙ ap (λ (b : Bool). anyBelow j (H q) || b) (sym (this q)) ∙ sym (any-more (H q) j)))
-
--- the words from 4 * a on hold the set of action a
-pub part-in : (sets : List ℕ) (a q : ℕ) → inRow (drop (4 * a) sets) q ≡ inRow sets (256 * a + q)
-unfolding inRow
-part-in sets a q =
-    let word : 4 * a + q / 64 ≡ (256 * a + q) / 64 = omega arith in
-    let place : q % 64 ≡ (256 * a + q) % 64 = omega arith in
-    ap₂ (λ (x i : ℕ). bit x i) (getD-drop (4 * a) sets (q / 64) 0 ∙ ap (λ (j : ℕ). getD sets j 0) word) place
-
-pub part-length : (sets : List ℕ) (a : ℕ) {part : List ℕ} → length sets ≡ 260 → a ≤ 64 → part ≡ drop (4 * a) sets → 4 ≤ length part
-part-length sets a long h e = omega (arith, ap length e, length-drop (4 * a) sets)
+-- where every pair is related, and then the members' rows become the members: a member is related to the members alone
+pub members-implied : (n : ℕ) (S : Set) (g : List ℕ) → g ≡ matrixOf n (λ p q. true) → matrixOf n (λ p q. cond (S p) (S q) (relationOf n g p q)) ≡ matrixOf n (λ p q. S p ⇒ S q)
+members-implied n S g is = matrixOf-cong n _ _ (λ p q hp hq. ap (cond (S p) (S q)) (relation-of n (λ p q. true) is p q hp hq) ∙ implied (S p) (S q))
+  where
+    implied : (a b : Bool) → cond a b true ≡ (a ⇒ b)
+    implied true b = refl
+    implied false b = refl

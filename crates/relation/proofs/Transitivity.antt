@@ -1,5 +1,5 @@
 -- Laws of transitivity, which is tested row by row, and of what is left to test of a row. Assumes nothing.
-use mathlib.Core.Path.{_≡_, refl, sym, ap, ap₂, _∙_, subst⁻¹}
+use mathlib.Core.Path.{_≡_, refl, sym, ap, ap₂, _∙_}
 use mathlib.Core.Bool.{Bool, true, false, not, _&&_}
 use mathlib.Core.List.{List, _++_}
 use mathlib.Core.Logic.{⊎-elim}
@@ -7,12 +7,13 @@ use Prim.Native.Nat.{ℕ, _*_, _≤_, _<_}
 use native.Mathlib.Omega.{arith}
 use lib.ListN.{length, drop}
 use Rattle.lts.specs.Bounded.{_⇒_}
-use Rattle.relation.specs.Matrix.{inRow, rowOf, rowWords, relationOf, Next}
-use Rattle.relation.specs.Check.{includedBelow, transitivePair, transitiveAt}
+use Rattle.rows.specs.Rows.{inRow, wordAt, rowOf, rowWords, statesBelow, Next, includedBelow}
+use Rattle.relation.specs.Matrix.{relationOf}
+use Rattle.relation.specs.Check.{transitivePair, transitiveAt}
 use Rattle.relation.specs.Tested.{Left}
-use Rattle.relation.proofs.Bounded.{all-of, all-at, all-cong, and-fst, clash, either, lt-or-ge}
-use Rattle.relation.proofs.Rows.{inRow-written, length-written}
-use Rattle.relation.proofs.Matrices.{inRow-drop}
+use Rattle.lts.proofs.Below.{length-listBelow, all-of, all-at, all-cong, and-fst, clash, either, lt-or-ge}
+use Rattle.rows.proofs.Rows.{inRow-of, length-written, states-in}
+use Rattle.relation.proofs.Rows.{zipped-row}
 
 module _ (n : ℕ) (R : ℕ → ℕ → Bool) where
   pub pair-none : (p q : ℕ) → R p q ≡ false → transitivePair n R p q ≡ true
@@ -43,34 +44,31 @@ module _ (n : ℕ) (R : ℕ → ℕ → Bool) where
 
   module _ (p : ℕ) (left : List ℕ) (ok : Left n R p left) where
     -- the states up to the next one that is left
-    pub left-skip : (start next : ℕ) → Next (inRow left) (rowWords n * 64) start next → ((t : ℕ) → t < start → t < n → transitivePair n R p t ≡ true)
+    pub left-skip : (bound start next : ℕ) → Next (inRow left) bound start next → ((t : ℕ) → t < start → t < n → transitivePair n R p t ≡ true)
         → (t : ℕ) → t < next → t < n → transitivePair n R p t ≡ true
-    left-skip start next found before t h l =
+    left-skip bound start next found before t h l =
         ⊎-elim (λ (k : t < start). before t k l) (λ (k : start ≤ t). ok .passed t l (found .none t k h)) (lt-or-ge t start)
 
-    pub left-next : (start next : ℕ) → Next (inRow left) (rowWords n * 64) start next → next < n → inRow left next ≡ true
-    left-next start next found h = found .member (omega arith)
+    pub left-next : (bound start next : ℕ) → n ≤ bound → Next (inRow left) bound start next → next < n → inRow left next ≡ true
+    left-next bound start next room found h = found .member (omega arith)
 
 -- row p of the matrix has yet to be tested
-pub left-whole : (n : ℕ) (g : List ℕ) (p : ℕ) (d left row : List ℕ) → rowWords n ≤ length d → row ≡ drop (p * rowWords n) g
-    → left ≡ rowOf (rowWords n) (inRow row) ++ drop (rowWords n) d → Left n (relationOf n g) p left
-left-whole n g p d left row long at written = record {
-  long = subst⁻¹ (λ (l : List ℕ). rowWords n ≤ length l) written (omega (arith, length-written (rowWords n) (inRow row) d long));
+pub left-whole : (n : ℕ) (R : ℕ → ℕ → Bool) (p : ℕ) (left : List ℕ) → n ≤ 256 → left ≡ rowOf 4 (statesBelow n (R p)) → Left n R p left
+left-whole n R p left small is = record {
+  long = omega (arith, ap length is, length-listBelow 4 (wordAt (statesBelow n (R p))));
   members = λ q h e. sym (same q h) ∙ e;
-  passed = λ q h e. pair-none n (relationOf n g) p q (sym (same q h) ∙ e);
+  passed = λ q h e. pair-none n R p q (sym (same q h) ∙ e);
 }
   where
-    same : (q : ℕ) → q < n → inRow left q ≡ relationOf n g p q
-    same q h =
-        ap (λ (l : List ℕ). inRow l q) written ∙ inRow-written (rowWords n) (inRow row) _ q (omega arith)
-        ∙ ap (λ (l : List ℕ). inRow l q) at ∙ inRow-drop (rowWords n) g p q
+    same : (q : ℕ) → q < n → inRow left q ≡ R p q
+    same q h = ap (λ (l : List ℕ). inRow l q) is ∙ inRow-of 4 (statesBelow n (R p)) q (omega arith) ∙ states-in n (R p) q h
 
 -- row q of the matrix is taken out of what is left of row p: q passes, and is transitive itself
-pub left-less : (n : ℕ) (g : List ℕ) (p q : ℕ) (left less row : List ℕ) → Left n (relationOf n g) p left → q < n → inRow left q ≡ true
+pub left-less : (n : ℕ) (g : List ℕ) (p q : ℕ) (left less row : List ℕ) {w : ℕ} → w ≡ rowWords n → Left n (relationOf n g) p left → q < n → inRow left q ≡ true
     → transitivePair n (relationOf n g) p q ≡ true → transitiveAt n (relationOf n g) q ≡ true → row ≡ drop (q * rowWords n) g
-    → less ≡ rowOf (rowWords n) (λ x. inRow left x && not (inRow row x)) ++ drop (rowWords n) left → Left n (relationOf n g) p less
-left-less n g p q left less row ok hq here pass through at written = record {
-  long = subst⁻¹ (λ (l : List ℕ). rowWords n ≤ length l) written (omega (arith, length-written (rowWords n) (λ x. inRow left x && not (inRow row x)) left (ok .long), ok .long));
+    → less ≡ rowOf w (λ x. inRow left x && not (inRow row x)) ++ drop w left → Left n (relationOf n g) p less
+left-less n g p q left less row {w} width ok hq here pass through at written = record {
+  long = omega (arith, ap length written, length-written w (λ x. inRow left x && not (inRow row x)) left (omega (arith, width, ok .long)), ok .long);
   members = λ r h e. ok .members r h (and-fst (inRow left r) _ (sym (same r h) ∙ e));
   passed = λ r h e. ⊎-elim
       (λ (k : inRow left r ≡ true). pair-through n (relationOf n g) p q r h pass (ok .members q hq here) through
@@ -79,9 +77,7 @@ left-less n g p q left less row ok hq here pass through at written = record {
 }
   where
     same : (r : ℕ) → r < n → inRow less r ≡ inRow left r && not (relationOf n g q r)
-    same r h =
-        ap (λ (l : List ℕ). inRow l r) written ∙ inRow-written (rowWords n) (λ x. inRow left x && not (inRow row x)) _ r (omega arith)
-        ∙ ap (λ (b : Bool). inRow left r && not b) (ap (λ (l : List ℕ). inRow l r) at ∙ inRow-drop (rowWords n) g q r)
+    same = zipped-row n q g (λ a b. a && not b) left width at written
 
     out : (b : Bool) → not b ≡ false → b ≡ true
     out true e = refl

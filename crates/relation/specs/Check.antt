@@ -5,15 +5,11 @@ use Prim.Native.Nat.{ℕ, _*_}
 use lib.Dec.{eqb, ltb}
 use lib.ListN.{length}
 use Rattle.lts.specs.Bounded.{_⇒_, allBelow}
-use Rattle.lts.specs.System.{Set, Rel}
-use Rattle.lts.specs.Table.{markedSet}
+use Rattle.lts.specs.System.{Rel}
 use Rattle.lts.specs.Rule.{Rule, _otherwise_}
 use Rattle.lts.specs.declared.Refusal.the-variants.{Grid, NotReflexive, NotTransitive}
-use Rattle.relation.specs.Matrix.{rowWords, relationOf}
-
--- every member of A below k is in B
-unfoldable pub includedBelow : ℕ → Set → Set → Bool
-includedBelow k A B = allBelow k (λ q. A q ⇒ B q)
+use Rattle.rows.specs.Rows.{rowWords}
+use Rattle.relation.specs.Matrix.{relationOf}
 
 -- every pair of states in R is in S
 unfoldable pub withinBelow : ℕ → Rel → Rel → Bool
@@ -46,7 +42,3 @@ startRules n g =
     ∷ reflexiveBelow n (relationOf n g) otherwise NotReflexive
     ∷ transitiveBelow n (relationOf n g) otherwise NotTransitive
     ∷ []
-
--- what a state is related to by the termination preorder, by whether it is terminating itself
-abbrev pub terminationRow : ℕ → List ℕ → Bool → Set
-terminationRow n marks ended q = ended ⇒ markedSet n marks q

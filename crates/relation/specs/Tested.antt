@@ -5,7 +5,7 @@ use mathlib.Core.List.{List}
 use Prim.Native.Nat.{ℕ, _<_, _≤_}
 use lib.ListN.{length}
 use Rattle.lts.specs.System.{Rel}
-use Rattle.relation.specs.Matrix.{inRow, rowWords}
+use Rattle.rows.specs.Rows.{inRow, rowWords}
 use Rattle.relation.specs.Check.{transitivePair}
 
 -- what is still to be tested of p: `left` has members of row p, and each state that it does not have passes

@@ -20,7 +20,8 @@ use Rattle.encoding.specs.Encoding.{sheetRules}
 use Rattle.encoding.specs.Denotation.{ltsOf}
 use Rattle.encoding.specs.Checked.{Bounds}
 use Rattle.encoding.proofs.Reader.{kept-readable}
-use Rattle.relation.specs.Matrix.{rowWords, matrixOf}
+use Rattle.rows.specs.Rows.{rowWords}
+use Rattle.relation.specs.Matrix.{matrixOf}
 use Rattle.relation.proofs.Matrices.{matrix-small, length-matrixOf, words-matrix}
 use Rattle.carry.specs.Carried.{stored, bytesOf}
 use Rattle.carry.specs.Bytes.{wordsOf}

@@ -15,7 +15,8 @@ use Rattle.encoding.specs.Records.{numberAt, headerOf, stateRecordAt, transitio
 use Rattle.encoding.specs.Encoding.{inRange, stateFits, transitionFits, statesFit, transitionsFit, walk, chain, reached, member, distinct, chainsFit, successor, successorsFit, headedRules, sheetRules}
 use Rattle.encoding.specs.Denotation.{any, ltsOf}
 use Rattle.encoding.proofs.Sheets.{F1, F2, F3, F4, F7, F8, F9}
-use Rattle.relation.specs.Matrix.{bit, wordOf, wordAt, inMatrix, matrixOf}
+use Rattle.rows.specs.Rows.{bit, wordOf, wordAt}
+use Rattle.relation.specs.Matrix.{inMatrix, matrixOf}
 use Rattle.relation.specs.Check.{isMatrix, reflexiveBelow, transitiveBelow, transitiveAt, transitivePair, startRules}
 use Rattle.inputs.specs.Inputs.{inputRules, pairRules}
 use Rattle.simulation.specs.Calls.{terminationRules, terminationCall}

@@ -20,7 +20,7 @@ use Rattle.inputs.specs.Inputs.{inputRules, pairRules}
 use Rattle.inputs.proofs.Laws.{kept-ready, pair-inputs, pair-states}
 use Rattle.strategy.specs.Check.{startOf, checkRules, CheckPromise}
 use Rattle.strategy.specs.Write.{planLength, writeRules, WritePromise}
-use Rattle.entries.proofs.Writings.{length-most}
+use Rattle.strategy_rounds.proofs.Lengths.{length-most}
 
 -- the states of a sheet that was read
 few : (s start : List ℕ) → broken (inputRules s start) ≡ Nothing → headerOf s .states ≤ 256

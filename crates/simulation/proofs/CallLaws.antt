@@ -2,13 +2,13 @@
 use mathlib.Core.Path.{_≡_, refl, sym, ap, ap₂, _∙_}
 use mathlib.Core.Bool.{Bool, true, false, not, cond, _&&_}
 use mathlib.Core.List.{List, [], _∷_}
-use Prim.Native.Nat.{ℕ, _*_}
+use Prim.Native.Nat.{ℕ, _*_, _≤_, _<_}
+use native.Mathlib.Omega.{arith}
 use lib.Dec.{eqb}
 use lib.ListN.{length}
 use borrow.Author.Tests.{eq-eqb, ne-eqb}
 use Rattle.lts.specs.Bounded.{_⇒_}
-use Rattle.lts.specs.System.{Set, Rel, Lts, allStates, anyState, allActions, into, answered, within, isSimulation, terminationPreorder}
-use Rattle.lts.specs.Table.{tableLts, withTerminating, markedSet}
+use Rattle.lts.specs.System.{Lts, allStates, within, isSimulation, terminationPreorder}
 use Rattle.lts.specs.declared.Refusal.{Refusal}
 use Rattle.lts.specs.declared.Refusal.the-variants.{Grid, Buffer}
 use Rattle.lts.specs.declared.Checked.{Checked}
@@ -18,11 +18,15 @@ use Rattle.lts.proofs.Rule.{stop, pass, done, first-part, second-part, refuses,
 use Rattle.encoding.specs.declared.Header.{Header}
 use Rattle.encoding.specs.declared.Reading.the-variants.{Readable, Refused as Unreadable}
 use Rattle.encoding.specs.Encoding.{sheetRules, readEncoding}
+use Rattle.encoding.specs.Checked.{ReadableAs}
 use Rattle.encoding.specs.Denotation.{ltsOf}
+use Rattle.encoding.proofs.Denotation.{lts-states}
 use Rattle.encoding.proofs.Reader.{sheet-broken, sheet-kept}
-use Rattle.relation.specs.Matrix.{rowWords, relationOf, matrixOf}
+use Rattle.rows.specs.Rows.{rowWords}
+use Rattle.transitions.specs.Table.{statesOf, tableLts, Holds}
+use Rattle.transitions.proofs.Filled.{sheet-states}
+use Rattle.relation.specs.Matrix.{relationOf, matrixOf}
 use Rattle.relation.specs.Check.{withinBelow, isMatrix}
-use Rattle.relation.proofs.Termination.{termination-of}
 use Rattle.inputs.specs.Inputs.{inputRules, readInputs}
 use Rattle.inputs.proofs.Laws.{input-broken, input-kept}
 use Rattle.simulation.specs.declared.Tested.{Tested}
@@ -30,29 +34,19 @@ use Rattle.simulation.specs.declared.Tested.the-variants.{Yes, No, Refus
 use Rattle.simulation.specs.Calls.{terminationRules, terminationCall, TerminationPromise, isInside, simulationReply, simulationRules, simulationCall, SimulationPromise}
 use Rattle.simulation.proofs.Promise.{termination-promised, simulation-promised}
 
--- ## The system of an encoding is its table's, with the marked states terminating
+-- ## The system of an encoding is its table's
+module _ (s : List ℕ) (h : Header) (g : ReadableAs s h) {t : List ℕ} (k : Holds (ltsOf s) t) where
+  pub preorder-table : {grid : List ℕ} → grid ≡ matrixOf (statesOf t) (terminationPreorder (tableLts t)) → grid ≡ matrixOf (h .states) (terminationPreorder (ltsOf s))
+  preorder-table e = e ∙ ap₂ (λ (n : ℕ) (L : Lts). matrixOf n (terminationPreorder L)) (sheet-states s h g k) (k .same)
 
-pub termination-table : (s marks : List ℕ) (n : ℕ) (L : Lts) → ltsOf s ≡ withTerminating (markedSet n marks) L
-    → matrixOf n (λ p q. markedSet n marks p ⇒ markedSet n marks q) ≡ matrixOf n (terminationPreorder (ltsOf s))
-termination-table s marks n L e = ap (matrixOf n) (termination-of n marks L ∙ sym (ap terminationPreorder e))
-
--- the terminating states do not matter to a simulation
-simulation-with : (X : Set) (L : Lts) (R : Rel) → isSimulation (withTerminating X L) R ≡ isSimulation L R
-unfolding isSimulation within answered allStates allActions into anyState withTerminating
-simulation-with X L R = refl
-
-within-with : (X : Set) (n m k : ℕ) (sources actions targets : List ℕ) (R S : Rel)
-    → within (withTerminating X (tableLts n m k sources actions targets)) R S ≡ withinBelow n R S
-unfolding within allStates withinBelow withTerminating tableLts
-within-with X n m k sources actions targets R S = refl
-
-pub inside-table : (s : List ℕ) (start claim : Rel) (X : Set) (n m k : ℕ) (sources actions targets : List ℕ)
-    → ltsOf s ≡ withTerminating X (tableLts n m k sources actions targets)
-    → isSimulation (tableLts n m k sources actions targets) claim && withinBelow n claim start ≡ isInside (ltsOf s) start claim
-unfolding isInside
-inside-table s start claim X n m k sources actions targets e =
-    ap₂ _&&_ (sym (ap (λ (L : Lts). isSimulation L claim) e ∙ simulation-with X (tableLts n m k sources actions targets) claim))
-    (sym (ap (λ (L : Lts). within L claim start) e ∙ within-with X n m k sources actions targets claim start))
+  pub inside-table : (start claim : List ℕ) → let n = h .states in
+      isSimulation (tableLts t) (relationOf (statesOf t) claim) && withinBelow n (relationOf n claim) (relationOf n start)
+      ≡ isInside (ltsOf s) (relationOf n start) (relationOf n claim)
+  unfolding isInside within allStates withinBelow
+  inside-table start claim =
+      let n = h .states in
+      ap₂ _&&_ (ap₂ (λ (L : Lts) (m : ℕ). isSimulation L (relationOf m claim)) (k .same) (sheet-states s h g k))
+      (ap (λ (m : ℕ). withinBelow m (relationOf n claim) (relationOf n start)) (sym (lts-states s h (g .header))))
 
 -- ## The end start
 -- what it says of its answer r and of the words g that it leaves

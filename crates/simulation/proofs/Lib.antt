@@ -1,4 +1,3 @@
-pub mod Tables
 pub mod Answers
 pub mod Starts
 pub mod Promise

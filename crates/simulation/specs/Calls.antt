@@ -15,7 +15,8 @@ use Rattle.lts.specs.Rule.{Rule, _otherwise_, Nothing, First, broken, checked, 
 use Rattle.encoding.specs.Records.{headerOf}
 use Rattle.encoding.specs.Encoding.{sheetRules}
 use Rattle.encoding.specs.Denotation.{ltsOf}
-use Rattle.relation.specs.Matrix.{rowWords, relationOf, matrixOf}
+use Rattle.rows.specs.Rows.{rowWords}
+use Rattle.relation.specs.Matrix.{relationOf, matrixOf}
 use Rattle.relation.specs.Check.{isMatrix, startRules}
 use Rattle.inputs.specs.Inputs.{inputRules}
 use Rattle.simulation.specs.declared.Tested.{Tested}

@@ -1,5 +1,5 @@
 -- One action of a refinement step by rows is document 01's: with P the blocks of K, the parts of `specs/Split.antt` are `split`, its blocks and `refine`.
--- Belongs to lts. Assumes nothing.
+-- Assumes nothing.
 use mathlib.Core.Path.{_≡_, refl, sym, ap, ap₂, _∙_, subst}
 use mathlib.Core.Bool.{Bool, true, false, cond, not, _&&_}
 use Prim.Native.Nat.{ℕ, _<_}
@@ -10,7 +10,7 @@ use Rattle.lts.proofs.Bounded.{and-iff, not-iff, any-iff, test-ext}
 use Rattle.lts.proofs.Refine.{Blocks}
 use Rattle.lts.proofs.System.{into-to, into-from}
 use Rattle.lts.proofs.Step.{On, IsState, block-iff, refine-row}
-use Rattle.relation.proofs.Bounded.{any-cong}
+use Rattle.lts.proofs.Below.{any-cong}
 use Rattle.splitting.specs.Split.{splitRelated, splitBlocks, pruneRelated, refinedRelated}
 
 module _ (Rem : Set) (K : Rel) (g h : ℕ) where

@@ -6,8 +6,8 @@ use Prim.Native.Nat.{ℕ, _+_, _≤_, _<_}
 use native.Mathlib.Nat.{eq-or-lt-of-le}
 use native.Mathlib.Omega.{arith}
 use Rattle.lts.specs.System.{Set, Rel}
-use Rattle.relation.specs.Matrix.{Next}
-use Rattle.relation.proofs.Bounded.{lt-or-ge, either}
+use Rattle.rows.specs.Rows.{Next}
+use Rattle.lts.proofs.Below.{lt-or-ge, either}
 
 -- each state that is not left is done, and none is left below x
 pub record Swept (n : ℕ) (Done : ℕ → Type 0) (left : Set) (x : ℕ) : Type 0 where

@@ -1,10 +1,10 @@
 -- Rows that one action of a refinement step leaves as they are. Assumes nothing.
 use mathlib.Core.Path.{_≡_, refl, sym, ap, ap₂, _∙_}
-use mathlib.Core.Bool.{Bool, true, false, cond, not, _&&_, and-true, true≢false}
-use Prim.Native.Nat.{ℕ, _<_}
+use mathlib.Core.Bool.{Bool, true, false, cond, not, _&&_, true≢false}
+use Prim.Native.Nat.{ℕ}
 use Rattle.lts.specs.System.{Set, Rel}
-use Rattle.relation.proofs.Bounded.{and-fst, and-snd}
-use Rattle.splitting.specs.Split.{splitRelated, splitBlocks, pruneRelated, Meets, Equivalence, Parted}
+use Rattle.lts.proofs.Below.{and-fst, and-snd}
+use Rattle.splitting.specs.Split.{splitRelated, splitBlocks, Equivalence, Parted}
 use Rattle.splitting.proofs.Laws.{SameRel}
 
 -- a row whose block lies on one side of Rem

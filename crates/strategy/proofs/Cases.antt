@@ -20,7 +20,8 @@ use Rattle.encoding.proofs.Sheets.{F3}
 use Rattle.encoding.specs.Records.{numberAt, headerOf, stateRecordAt, transitionRecordAt, stateRecord, transitionRecord}
 use Rattle.encoding.specs.Encoding.{inRange, stateFits, transitionFits, statesFit, transitionsFit, walk, chain, reached, member, distinct, chainsFit, successor, successorsFit, headedRules, sheetRules}
 use Rattle.encoding.specs.Denotation.{any, ltsOf}
-use Rattle.relation.specs.Matrix.{bit, inMatrix}
+use Rattle.rows.specs.Rows.{bit}
+use Rattle.relation.specs.Matrix.{inMatrix}
 use Rattle.relation.specs.Check.{isMatrix, reflexiveBelow, transitiveBelow, transitiveAt, transitivePair, startRules}
 use Rattle.inputs.specs.Inputs.{inputRules, pairRules}
 use Rattle.strategy.specs.Check.{keptPairs, checkRules, checkCall, Accepts, CheckPromise}

@@ -1,47 +1,27 @@
--- The check on a sheet is the check on its loaded table; the pair of the last entry; and what check plan comes to, by its rules.
+-- The pair of the last entry, and what check plan comes to, by its rules.
 use Prim.Native.Nat.{ℕ, zero, suc, _+_, _*_, _-_, _/_, _≤_}
 use mathlib.Core.Path.{_≡_, refl, sym, _∙_, ap}
-use mathlib.Core.Bool.{Bool, true, false, not, _&&_}
+use mathlib.Core.Bool.{Bool, true, false, not}
 use mathlib.Core.List.{List, [], _∷_}
 use native.Mathlib.Omega.{arith}
 use lib.ListN.{length, getD}
 use Rattle.lts.specs.Bounded.{listBelow}
-use Rattle.lts.specs.System.{Set, Rel, Lts, allStates}
+use Rattle.lts.specs.System.{Rel, Lts}
 use Rattle.lts.specs.declared.Entry.{Entry}
-use Rattle.lts.specs.Strategy.{sound, allSound, accepted, entriesOf, lastOf}
-use Rattle.lts.specs.Table.{tableLts, withTerminating, markedSet}
+use Rattle.lts.specs.Strategy.{accepted, entriesOf, lastOf}
 use Rattle.lts.specs.declared.Refusal.{Refusal}
 use Rattle.lts.specs.declared.Refusal.the-variants.{Unsound}
 use Rattle.lts.specs.Rule.{_otherwise_, Nothing, First, broken}
 use Rattle.lts.proofs.Rule.{stop, pass, done, first-part, second-part, refuses, passes}
-use Rattle.encoding.specs.declared.Header.{Header}
 use Rattle.encoding.specs.Records.{headerOf}
 use Rattle.encoding.specs.Denotation.{ltsOf}
-use Rattle.encoding.specs.Loaded.{Loaded}
 use Rattle.relation.specs.Matrix.{relationOf}
-use Rattle.relation.proofs.Bounded.{clash}
+use Rattle.lts.proofs.Below.{clash}
 use Rattle.inputs.specs.Inputs.{inputRules}
 use Rattle.strategy_check.specs.Entries.{entryOf}
 use Rattle.strategy_check.proofs.Entries.{entries-below, accepted-none}
 use Rattle.strategy.specs.declared.Verdict.the-variants.{Last, Refused}
 use Rattle.strategy.specs.Check.{checkReply, checkRules, checkCall}
-
--- the terminating set plays no part in the check: belongs to lts
-module _ (X : Set) (L : Lts) (start : Rel) where
-  sound-terminating : (earlier es : List Entry) → allSound (withTerminating X L) start earlier es ≡ allSound L start earlier es
-  unfolding allSound sound withTerminating allStates
-  sound-terminating earlier [] = refl
-  sound-terminating earlier (e ∷ es) = ap (λ (b : Bool). sound L start earlier e && b) (sound-terminating (e ∷ earlier) es)
-
-  pub accepted-terminating : (es : List Entry) → accepted (withTerminating X L) start es ≡ accepted L start es
-  unfolding accepted
-  accepted-terminating [] = refl
-  accepted-terminating (e ∷ es) = sound-terminating [] (e ∷ es)
-
-pub accepted-loaded : (s : List ℕ) (h : Header) (marks offsets sources actions targets : List ℕ) → Loaded s h marks offsets sources actions targets → (start : Rel) (es : List Entry)
-    → accepted (tableLts (h .states) (h .actions) (h .transitions) sources actions targets) start es ≡ accepted (ltsOf s) start es
-accepted-loaded s h marks offsets sources actions targets loaded start es =
-    sym (ap (λ (S : Lts). accepted S start es) (loaded .same) ∙ accepted-terminating (markedSet (h .states) marks) _ start es)
 
 -- an accepted list is not empty
 pub accepted-long : (L : Lts) (start : Rel) (xs : List ℕ) → accepted L start (entriesOf xs) ≡ true → 4 ≤ length xs

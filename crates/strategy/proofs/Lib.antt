@@ -1,5 +1,7 @@
 pub mod Checks
-pub mod Sorted
+pub mod Loads
 pub mod Writes
 pub mod Promise
+pub mod Entries
+pub mod Within
 mod Cases

@@ -33,7 +33,7 @@ use Rattle.encoding.specs.Denotation.{ltsOf}
 use Rattle.encoding.specs.Read.{Denoted}
 use Rattle.encoding.proofs.Reader.{reads}
 use Rattle.encoding.proofs.Laws.{denoted}
-use Rattle.relation.proofs.Bounded.{true-T, T-true, lowest-at}
+use Rattle.lts.proofs.Below.{true-T, T-true, lowest-at}
 use Rattle.relation.proofs.Checks.{checked-reflexive, checked-transitive}
 use Rattle.inputs.specs.Inputs.{inputRules, pairRules, Ready}
 use Rattle.inputs.proofs.Laws.{kept-ready, pair-inputs, pair-states}

@@ -1,3 +1,4 @@
 pub mod Check
 pub mod Write
 pub mod Steps
+pub mod Within

@@ -3,25 +3,19 @@ ghost use mathlib.Core.Path.{_≡_};
 ghost use Prim.Native.Nat.{_≤_, _<_};
 ghost use lib.ListN.{length};
 ghost use Rattle.lts.specs.Strategy.{accepted, entriesOf, entryNumbers};
-ghost use Rattle.lts.specs.Table.{tableLts};
 ghost use Rattle.encoding.specs.Denotation.{ltsOf};
+ghost use Rattle.transitions.specs.Table.{statesOf, tableLts, Formed};
 ghost use Rattle.relation.specs.Matrix.{relationOf, Matrix};
 ghost use Rattle.inputs.specs.Inputs.{Ready};
-ghost use Rattle.strategy_write.specs.Writing.{Sorted};
 ghost use Rattle.strategy.specs.Check.{checkReply, checkCall, CheckPromise};
 ghost use Rattle.strategy.specs.Write.{writeReply, writeCall, WritePromise};
 ghost use Rattle.strategy.specs.Steps.{LastPair, writeOn};
+ghost use Rattle.strategy.specs.Within.{entryCount, numberCount, WrittenWithin};
 
 // What the check of a strategy answers: the last entry's pair.
 pub enum Verdict {
     Last(usize, usize),
     Refused(lts::Refusal),
-}
-
-fn wide(x: u16) -> usize
-    ensures { λ r. ⌜ r ≡ x ⌝ }
-{
-    x as usize
 }
 
 // The pair of the last whole entry.
@@ -36,8 +30,8 @@ fn last_pair(numbers: &[u16]) -> Pair
 {
     let at = 4 * (numbers.len() / 4 - 1);
     Pair {
-        first: wide(numbers[at]),
-        second: wide(numbers[at + 1]),
+        first: strategy_check::wide(numbers[at]),
+        second: strategy_check::wide(numbers[at + 1]),
     }
 }
 
@@ -46,34 +40,8 @@ fn accepted_readable(s: &[u8], h: encoding::Header, start: &[u64], numbers: &[u1
     requires { ⌜ Ready (now s) h (now start) ⌝ }
     ensures { λ r. ⌜ r ≡ accepted (ltsOf (now (s .entry))) (relationOf (h .states) (now (start .entry))) (entriesOf (now (numbers .entry))) ⌝ }
 {
-    let mut marks = [0u8; 256];
-    let mut offsets = [0u16; 257];
-    let mut sources = [0u16; 1024];
-    let mut actions = [0u8; 1024];
-    let mut targets = [0u16; 1024];
-    encoding::load(
-        s,
-        h,
-        &mut marks,
-        &mut offsets,
-        &mut sources,
-        &mut actions,
-        &mut targets,
-    );
-    let n = h.states;
-    let m = h.actions;
-    let k = h.transitions;
-    strategy_check::check_table(
-        n,
-        m,
-        k,
-        &sources,
-        &actions,
-        &targets,
-        &offsets,
-        start,
-        numbers,
-    )
+    let table = transitions::load(s, h);
+    strategy_check::check_table(&table, start, numbers)
 }
 
 // Check plan: accepts a non-empty list of sound entries, and answers the last pair.
@@ -102,24 +70,19 @@ pub enum Written {
 
 // Writes the strategy of (p, q) on a transition table: refusals 13 and 15.
 fn write_on_table(
-    n: usize,
-    m: usize,
-    k: usize,
-    sources: &[u16; 1024],
-    actions: &[u8; 1024],
-    targets: &[u16; 1024],
-    offsets: &[u16; 257],
+    table: &transitions::Table,
     start: &[u64],
     p: usize,
     q: usize,
     numbers: &mut [u16],
 ) -> Written
-    requires { ⌜ Sorted n m k (now sources) (now actions) (now targets) (now offsets) × Matrix n (now start) × (p < n) × (q < n) ⌝ }
-    ensures { λ r. ⌜ (let L = tableLts n m k (now (sources .entry)) (now (actions .entry)) (now (targets .entry)) in
-        writeOn L (relationOf n (now (start .entry))) p q (now (numbers .entry))
+    requires { ⌜ (let n = statesOf (now table) in Formed (now table) × Matrix n (now start) × (p < n) × (q < n)) ⌝ }
+    ensures { λ r. ⌜ (let T = now (table .entry) in
+        writeOn (tableLts T) (relationOf (statesOf T) (now (start .entry))) p q (now (numbers .entry))
         ≡ record { reply = writeReply r; plan = now (numbers .exit) }) ⌝ }
 {
-    let found = rounds::refute(n, m, k, sources, actions, targets, start, p, q);
+    let n = transitions::states(table);
+    let found = strategy_rounds::refute(table, start, p, q);
     let round = found.round;
     let count = found.count;
     if round > n * n {
@@ -128,20 +91,7 @@ fn write_on_table(
     if numbers.len() / 4 < count {
         return Written::Refused(lts::Refusal::Buffer);
     }
-    strategy_write::write_table(
-        n,
-        m,
-        k,
-        sources,
-        actions,
-        targets,
-        offsets,
-        start,
-        p,
-        q,
-        round,
-        numbers,
-    );
+    strategy_write::write_table(table, start, p, q, round, numbers);
     Written::Entries(count)
 }
 
@@ -158,36 +108,8 @@ fn write_loaded(
     ensures { λ r. ⌜ writeOn (ltsOf (now (s .entry))) (relationOf (h .states) (now (start .entry))) p q (now (numbers .entry))
         ≡ record { reply = writeReply r; plan = now (numbers .exit) } ⌝ }
 {
-    let mut marks = [0u8; 256];
-    let mut offsets = [0u16; 257];
-    let mut sources = [0u16; 1024];
-    let mut actions = [0u8; 1024];
-    let mut targets = [0u16; 1024];
-    encoding::load(
-        s,
-        h,
-        &mut marks,
-        &mut offsets,
-        &mut sources,
-        &mut actions,
-        &mut targets,
-    );
-    let n = h.states;
-    let m = h.actions;
-    let k = h.transitions;
-    write_on_table(
-        n,
-        m,
-        k,
-        &sources,
-        &actions,
-        &targets,
-        &offsets,
-        start,
-        p,
-        q,
-        numbers,
-    )
+    let table = transitions::load(s, h);
+    write_on_table(&table, start, p, q, numbers)
 }
 
 // Write plan: the strategy of the refuted pair (p, q). Numbers past its entries stay as they are.
@@ -202,4 +124,37 @@ pub fn write_strategy(s: &[u8], start: &[u64], p: usize, q: usize, numbers: &mut
         encoding::Reading::Refused(r) => Written::Refused(r),
         encoding::Reading::Readable(h) => write_loaded(s, h, start, p, q, numbers),
     }
+}
+
+// How many entries an answer counts: none where it is a refusal.
+pub fn entry_count(answer: Written) -> usize
+    ensures { λ r. ⌜ r ≡ entryCount answer ⌝ }
+{
+    match answer {
+        Written::Entries(c) => c,
+        Written::Refused(_) => 0,
+    }
+}
+
+// How many numbers carry so many entries, and at most those of the longest strategy, 4 * 256 * 256.
+fn number_count(room: usize) -> usize
+    ensures { λ r. ⌜ r ≡ numberCount room ⌝ }
+{
+    if room <= 65536 { 4 * room } else { 262144 }
+}
+
+// Writes into the first numbers what a list with room for `room` entries is to hold.
+pub fn write_within(
+    s: &[u8],
+    start: &[u64],
+    p: usize,
+    q: usize,
+    room: usize,
+    numbers: &mut [u16],
+) -> Written
+    requires { ⌜ 262144 ≤ length (now numbers) ⌝ }
+    ensures { λ r. ⌜ WrittenWithin (now (s .entry)) (now (start .entry)) p q room r (now (numbers .exit)) ⌝ }
+{
+    let size = number_count(room);
+    write_strategy(s, start, p, q, &mut numbers[..size])
 }

@@ -12,9 +12,9 @@ use Rattle.lts.specs.Strategy.{entriesOf, entryNumbers}
 use Rattle.strategy.specs.declared.Written.{Written}
 use Rattle.strategy.specs.Write.{writeReply, writeCall}
 use Rattle.strategy.proofs.Promise.{AllSmall, Carrier, numbers-carry, numbers-back}
-use Rattle.entries.specs.Entries.{blank, entryCount, WrittenWithin}
-use Rattle.entries.proofs.Copies.{length-entries, entry-read}
-use Rattle.entries.proofs.Writings.{carried-within}
+use Rattle.strategy.specs.Within.{blank, entryCount, WrittenWithin}
+use Rattle.strategy.proofs.Entries.{length-entries, entry-read}
+use Rattle.strategy.proofs.Within.{carried-within}
 use Rattle.strategy_bytes.specs.Bytes.{entryBytes, entriesOfBytes}
 
 length-list : (bytes : List ℕ) → length (listOf bytes) ≡ length bytes / 2

@@ -4,7 +4,7 @@ ghost use Prim.Native.Nat.{_≤_, _+_, _*_};
 ghost use lib.ListN.{length, getD};
 ghost use Rattle.strategy.specs.Check.{checkReply, checkCall, CheckPromise};
 ghost use Rattle.strategy.specs.Write.{writeReply, writeCall, WritePromise};
-ghost use Rattle.entries.specs.Entries.{blank};
+ghost use Rattle.strategy.specs.Within.{blank};
 ghost use Rattle.strategy_bytes.specs.Bytes.{entryBytes, entriesOfBytes};
 
 // Entry i of those that the bytes carry.
@@ -21,19 +21,21 @@ fn entry_at(bytes: &[u8], i: usize) -> lts::Entry
     }
 }
 
-// Check plan on bytes, of any length: the entries are taken one by one. Bytes past the last whole entry are ignored.
+// Check plan on bytes, of any length: the entries are judged one by one. Bytes past the last whole entry are ignored.
 pub fn check_bytes(s: &[u8], start: &[u64], plan: &[u8]) -> strategy::Verdict
     ensures { λ r. ⌜ checkCall (now (s .entry)) (now (start .entry)) (entriesOfBytes (now (plan .entry))) ≡ checkReply r ⌝ }
     ensures { λ r. ⌜ CheckPromise (now (s .entry)) (now (start .entry)) (entriesOfBytes (now (plan .entry))) (checkReply r) ⌝ }
 {
-    let mut work = [0u16; 69636];
+    let reading = inputs::read_inputs(s, start);
+    let table = strategy_judge::load(s, reading);
+    let mut judged = [0u64; 1027];
     let n = plan.len() / 8;
     let mut at = 0;
     while at < n {
-        strategy_parts::take_entry(s, start, &mut work, at, entry_at(plan, at));
+        strategy_judge::judge(&table, start, &mut judged, entry_at(plan, at));
         at += 1;
     }
-    strategy_parts::conclude(s, start, &mut work, n)
+    strategy_judge::conclude(reading, &judged, n)
 }
 
 // Write plan on bytes: the strategy of the refuted pair (p, q). Bytes past it stay as they are.
@@ -50,8 +52,8 @@ pub fn write_bytes(
         (writeReply r) (now (plan .exit)) ⌝ }
 {
     let mut numbers = [0u16; 262144];
-    let answer = entries::write_within(s, start, p, q, plan.len() / 8, &mut numbers);
-    let count = entries::entry_count(answer);
+    let answer = strategy::write_within(s, start, p, q, plan.len() / 8, &mut numbers);
+    let count = strategy::entry_count(answer);
     let size = 4 * count;
     carry::store_numbers(&numbers[..size], plan);
     answer

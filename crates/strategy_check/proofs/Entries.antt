@@ -1,10 +1,10 @@
 -- The entries of a list of numbers, one by one: a strategy is accepted exactly if each entry is sound over those before it. Assumes nothing.
-use Prim.Native.Nat.{ℕ, zero, suc, _+_, _*_, _/_, _≤_, _<_}
+use Prim.Native.Nat.{ℕ, zero, suc, _+_, _*_, _/_}
 use mathlib.Core.Path.{_≡_, refl, sym, _∙_, ap, fun-ext}
-use mathlib.Core.Bool.{Bool, true, false, not, _&&_, _||_}
+use mathlib.Core.Bool.{Bool, true, false, _&&_, _||_, and-true, and-assoc}
 use mathlib.Core.List.{List, [], _∷_}
 use native.Mathlib.Omega.{arith}
-use lib.Dec.{eqb, ltb}
+use lib.Dec.{ltb}
 use lib.ListN.{length, getD}
 use Rattle.lts.specs.Bounded.{_⇒_, anyBelow, allBelow, listBelow}
 use Rattle.lts.specs.System.{Rel, Lts, allStates}
@@ -22,14 +22,6 @@ unfolding entriesUpTo
 up-to-shift earlier f zero = refl
 up-to-shift earlier f (suc e) = ap (λ (l : List Entry). f (suc e) ∷ l) (up-to-shift earlier f e)
 
-and-assoc : (a b c : Bool) → (a && b) && c ≡ a && (b && c)
-and-assoc true b c = refl
-and-assoc false b c = refl
-
-and-true : (b : Bool) → b && true ≡ b
-and-true true = refl
-and-true false = refl
-
 or-swap : (a b : Bool) → a || b ≡ b || a
 or-swap true true = refl
 or-swap true false = refl
@@ -42,15 +34,15 @@ all-cons zero f = sym (and-true (f 0))
 all-cons (suc n) f = ap (λ (b : Bool). b && f (suc n)) (all-cons n f) ∙ and-assoc (f 0) (allBelow n (λ i. f (suc i))) (f (suc n))
 
 -- each of the entries f 0 .. f (n - 1) is sound exactly if the list of them is
-pub all-sound-below : (L : Lts) (preorder : Rel) (n : ℕ) (earlier : List Entry) (f : ℕ → Entry)
-    → allSound L preorder earlier (listBelow n f) ≡ allBelow n (λ e. sound L preorder (entriesUpTo earlier f e) (f e))
+pub all-sound-below : (L : Lts) (start : Rel) (n : ℕ) (earlier : List Entry) (f : ℕ → Entry)
+    → allSound L start earlier (listBelow n f) ≡ allBelow n (λ e. sound L start (entriesUpTo earlier f e) (f e))
 unfolding allSound listBelow allBelow entriesUpTo
-all-sound-below L preorder zero earlier f = refl
-all-sound-below L preorder (suc n) earlier f =
-    ap (λ (b : Bool). sound L preorder earlier (f 0) && b)
-    (all-sound-below L preorder n (f 0 ∷ earlier) (λ i. f (suc i))
-    ∙ ap (λ (g : ℕ → List Entry). allBelow n (λ e. sound L preorder (g e) (f (suc e)))) (fun-ext (up-to-shift earlier f)))
-    ∙ sym (all-cons n (λ e. sound L preorder (entriesUpTo earlier f e) (f e)))
+all-sound-below L start zero earlier f = refl
+all-sound-below L start (suc n) earlier f =
+    ap (λ (b : Bool). sound L start earlier (f 0) && b)
+    (all-sound-below L start n (f 0 ∷ earlier) (λ i. f (suc i))
+    ∙ ap (λ (g : ℕ → List Entry). allBelow n (λ e. sound L start (g e) (f (suc e)))) (fun-ext (up-to-shift earlier f)))
+    ∙ sym (all-cons n (λ e. sound L start (entriesUpTo earlier f e) (f e)))
 
 -- what the entries before number e hold
 pub holds-before : (xs : List ℕ) (e : ℕ) → holds (entriesUpTo [] (entryOf xs) e) ≡ heldBefore xs e
@@ -85,22 +77,22 @@ entries-below (p ∷ []) = refl
 entries-below (p ∷ q ∷ []) = refl
 entries-below (p ∷ q ∷ a ∷ []) = refl
 
-module _ (L : Lts) (preorder : Rel) (xs : List ℕ) where
-  sound-at : (e : ℕ) → sound L preorder (entriesUpTo [] (entryOf xs) e) (entryOf xs e) ≡ soundAt L preorder xs e
+module _ (L : Lts) (start : Rel) (xs : List ℕ) where
+  sound-at : (e : ℕ) → sound L start (entriesUpTo [] (entryOf xs) e) (entryOf xs e) ≡ soundAt L start xs e
   unfolding sound soundAt soundOver outside repliesHeld entryOf
   sound-at e =
       let x = entryOf xs e in
-      ap (λ (H : Rel). ltb (x .p) (L .states) && ltb (x .q) (L .states) && (outside preorder (x .p) (x .q) (x .a) (x .t) || L .transition (x .p) (x .a) (x .t) && allStates L (λ r. L .transition (x .q) (x .a) r ⇒ H (x .t) r)))
+      ap (λ (H : Rel). ltb (x .p) (L .states) && ltb (x .q) (L .states) && (outside start (x .p) (x .q) (x .a) (x .t) || L .transition (x .p) (x .a) (x .t) && allStates L (λ r. L .transition (x .q) (x .a) r ⇒ H (x .t) r)))
       (holds-before xs e)
 
-  pub accepted-some : (length xs / 4 ≡ 0 → ⊥) → accepted L preorder (entriesOf xs) ≡ allBelow (length xs / 4) (soundAt L preorder xs)
+  pub accepted-some : (length xs / 4 ≡ 0 → ⊥) → accepted L start (entriesOf xs) ≡ allBelow (length xs / 4) (soundAt L start xs)
   unfolding accepted listBelow
-  accepted-some h = ap (accepted L preorder) (entries-below xs) ∙ some (length xs / 4) h
+  accepted-some h = ap (accepted L start) (entries-below xs) ∙ some (length xs / 4) h
     where
-      some : (n : ℕ) → (n ≡ 0 → ⊥) → accepted L preorder (listBelow n (entryOf xs)) ≡ allBelow n (soundAt L preorder xs)
+      some : (n : ℕ) → (n ≡ 0 → ⊥) → accepted L start (listBelow n (entryOf xs)) ≡ allBelow n (soundAt L start xs)
       some zero h = absurd (h refl)
-      some (suc n) h = all-sound-below L preorder (suc n) [] (entryOf xs) ∙ ap (allBelow (suc n)) (fun-ext sound-at)
+      some (suc n) h = all-sound-below L start (suc n) [] (entryOf xs) ∙ ap (allBelow (suc n)) (fun-ext sound-at)
 
-  pub accepted-none : length xs / 4 ≡ 0 → accepted L preorder (entriesOf xs) ≡ false
+  pub accepted-none : length xs / 4 ≡ 0 → accepted L start (entriesOf xs) ≡ false
   unfolding accepted listBelow
-  accepted-none h = ap (accepted L preorder) (entries-below xs ∙ ap (λ (n : ℕ). listBelow n (entryOf xs)) h)
+  accepted-none h = ap (accepted L start) (entries-below xs ∙ ap (λ (n : ℕ). listBelow n (entryOf xs)) h)

@@ -1,7 +1,7 @@
 -- The entries that a list of numbers carries, by their number: what the loops of the check go through.
-use Prim.Native.Nat.{ℕ, zero, suc, _+_, _*_}
+use Prim.Native.Nat.{ℕ, _+_, _*_}
 use mathlib.Core.Bool.{Bool, not, _&&_, _||_}
-use mathlib.Core.List.{List, [], _∷_}
+use mathlib.Core.List.{List}
 use lib.Dec.{eqb, ltb}
 use lib.ListN.{getD}
 use Rattle.lts.specs.Bounded.{_⇒_, anyBelow}
@@ -24,14 +24,14 @@ heldBefore xs e t r = anyBelow e (holdsPair xs t r)
 unfoldable pub repliesHeld : Lts → List ℕ → ℕ → ℕ → ℕ → ℕ → Bool
 repliesHeld L xs e q a t = allStates L (λ r. L .transition q a r ⇒ heldBefore xs e t r)
 
--- a = t = 0 and (p, q) is outside the preorder
+-- a = t = 0 and (p, q) is outside the starting preorder
 unfoldable pub outside : Rel → ℕ → ℕ → ℕ → ℕ → Bool
-outside preorder p q a t = eqb a 0 && eqb t 0 && not (preorder p q)
+outside start p q a t = eqb a 0 && eqb t 0 && not (start p q)
 
 -- the entry p, q, a, t is sound over the entries before number e; entry e is sound over those before it
 unfoldable pub soundOver : Lts → Rel → List ℕ → ℕ → ℕ → ℕ → ℕ → ℕ → Bool
-soundOver L preorder xs e p q a t =
-    ltb p (L .states) && ltb q (L .states) && (outside preorder p q a t || L .transition p a t && repliesHeld L xs e q a t)
+soundOver L start xs e p q a t =
+    ltb p (L .states) && ltb q (L .states) && (outside start p q a t || L .transition p a t && repliesHeld L xs e q a t)
 
 unfoldable pub soundAt : Lts → Rel → List ℕ → ℕ → Bool
-soundAt L preorder xs e = soundOver L preorder xs e (getD xs (4 * e) 0) (getD xs (4 * e + 1) 0) (getD xs (4 * e + 2) 0) (getD xs (4 * e + 3) 0)
+soundAt L start xs e = soundOver L start xs e (getD xs (4 * e) 0) (getD xs (4 * e + 1) 0) (getD xs (4 * e + 2) 0) (getD xs (4 * e + 3) 0)

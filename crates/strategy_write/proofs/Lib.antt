@@ -1,3 +1,4 @@
-pub mod Answers
 pub mod Writes
+pub mod Answers
 pub mod Rounds
+pub mod Progress

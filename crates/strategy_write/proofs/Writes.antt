@@ -1,25 +1,26 @@
 -- Entries written one after the other. Assumes nothing.
 use Prim.Native.Nat.{ℕ, zero, suc, _+_, _*_, _≤_, _<_, zero-le}
 use mathlib.Core.Path.{_≡_, refl, sym, _∙_, ap, ap₂, subst⁻¹}
-use mathlib.Core.List.{List, [], _∷_, _++_, append-assoc}
-use mathlib.Core.Bool.{Bool, true, false, cond, not, _&&_, xor}
+use mathlib.Core.List.{List, [], _∷_, _++_}
+use mathlib.Core.Bool.{Bool, true, false, not, _&&_, xor}
 use native.Mathlib.Omega.{arith}
 use native.Mathlib.Nat.{le-refl, le-step, lt-suc-self, le-antisymm, le-suc-iff}
 use mathlib.Core.Logic.{_⊎_, inl, inr}
 use native.Mathlib.Numerals.{add-one}
-use lib.ListN.{length, getD, set, drop, length-append}
+use lib.ListN.{length, set, drop, length-append}
 use lib.Seq.{sets, length-sets}
-use Rattle.lts.specs.Bounded.{anyBelow, concatBelow, restrict}
-use Rattle.lts.specs.Table.{tableLts}
+use Rattle.lts.specs.Bounded.{anyBelow, concatBelow}
 use Rattle.lts.proofs.Bounded.{restrict-at}
 use Rattle.lts.specs.System.{Rel, Lts, answered}
 use Rattle.lts.specs.declared.Entry.{Entry}
 use Rattle.lts.specs.Strategy.{entryNumbers}
-use Rattle.relation.specs.Matrix.{inRow, rowWords, relationOf, Matrix}
-use Rattle.relation.proofs.Bounded.{clash, any-yes}
+use Rattle.rows.specs.Rows.{inRow, rowWords}
+use Rattle.transitions.specs.Table.{statesOf, actionAt, targetAt, tableLts}
+use Rattle.relation.specs.Matrix.{relationOf, Matrix}
+use Rattle.lts.proofs.Below.{clash, any-yes}
 use Rattle.relation.proofs.Checks.{rows-differ}
-use Rattle.rounds.specs.Rounds.{nextRound}
-use Rattle.strategy_write.specs.Writing.{Unanswered, Follows, entryFrom, cellEntries, rowEntries, roundEntries}
+use Rattle.strategy_rounds.specs.Rounds.{nextRound}
+use Rattle.strategy_write.specs.Writing.{pairsOf, Unanswered, entryFrom, cellEntries, rowEntries, roundEntries}
 
 pub numbers-append : (xs ys : List Entry) → entryNumbers (xs ++ ys) ≡ entryNumbers xs ++ entryNumbers ys
 unfolding entryNumbers
@@ -98,10 +99,10 @@ pub pair-first : (L : Lts) (W : Rel) (p q : ℕ) {initial : Bool} → initial �
 unfolding entryNumbers entryFrom
 pair-first L W p q e = rw e
 
-pub pair-later : (L : Lts) (actions targets : List ℕ) (k : ℕ) (W : Rel) (p q r : ℕ) {initial : Bool} {x : ℕ} → initial ≡ false → Unanswered L actions targets k W p q r → x ≡ getD actions r 0
-    → p ∷ q ∷ x ∷ getD targets r 0 ∷ [] ≡ entryNumbers (entryFrom L initial W p q ∷ [])
-unfolding entryNumbers entryFrom
-pair-later L actions targets k W p q r e u x = rw (e, x, u .action, u .target)
+pub pair-later : (t : List ℕ) (W : Rel) (p q r : ℕ) {initial : Bool} {a x : ℕ} → initial ≡ false → Unanswered t W p q r → a ≡ actionAt t r → x ≡ targetAt t r
+    → p ∷ q ∷ a ∷ x ∷ [] ≡ entryNumbers (entryFrom (tableLts t) initial W p q ∷ [])
+unfolding entryNumbers entryFrom tableLts
+pair-later t W p q r e u ea ex = rw (e, ea, ex, u .target, u .action)
 
 -- the entries of a pair that leaves B for A, and of one that does not
 module _ (L : Lts) (initial : Bool) (B A : Rel) (p q : ℕ) where
@@ -124,7 +125,7 @@ module _ (L : Lts) (initial : Bool) (B A : Rel) (p q : ℕ) where
   cell-empty d i e = ap (λ (l : List Entry). sets d i (entryNumbers l)) (sym (cell-stays e))
 
   -- a pair that leaves has no answer
-  pub leaves-unanswered : Follows L initial B A → B p q && not (A p q) ≡ true → initial ≡ false → answered L B p q ≡ false
+  pub leaves-unanswered : (initial ≡ false → A ≡ nextRound L B) → B p q && not (A p q) ≡ true → initial ≡ false → answered L B p q ≡ false
   unfolding nextRound
   leaves-unanswered f e i = go (B p q) (answered L B p q) (ap (λ (X : Rel). B p q && not (X p q)) (sym (f i)) ∙ e)
     where
@@ -133,42 +134,54 @@ module _ (L : Lts) (initial : Bool) (B A : Rel) (p q : ℕ) where
       go true false e = refl
       go false y e = absurd (clash e refl)
 
--- the test of a pair, as the matrices say it
-pub leaves-is : (n : ℕ) (R S : Rel) (p q : ℕ) {x y : Bool} → p < n → q < n → x ≡ R p q → y ≡ S p q → x && not y ≡ restrict n R p q && not (restrict n S p q)
-leaves-is n R S p q hp hq e f = rw (e, f, restrict-at n R p q hp hq, restrict-at n S p q hp hq)
+-- the test of a pair, as the matrices say it, with the number of states as it was read
+pub leaves-is : (t g h : List ℕ) (p q : ℕ) {states : ℕ} {x y : Bool} → p < statesOf t → q < statesOf t → states ≡ statesOf t
+    → x ≡ relationOf states g p q → y ≡ relationOf states h p q → x && not y ≡ pairsOf t g p q && not (pairsOf t h p q)
+leaves-is t g h p q hp hq es e f =
+    let n = statesOf t in
+    ap₂ (λ (x y : Bool). x && not y) (e ∙ ap (λ (k : ℕ). relationOf k g p q) es ∙ sym (restrict-at n (relationOf n g) p q hp hq))
+    (f ∙ ap (λ (k : ℕ). relationOf k h p q) es ∙ sym (restrict-at n (relationOf n h) p q hp hq))
 
 -- rows and rounds on a table
-module _ (n m k : ℕ) (sources actions targets : List ℕ) (initial : Bool) (B A : Rel) where
-  pub row-is : (p : ℕ) → concatBelow n (cellEntries (tableLts n m k sources actions targets) initial B A p) ≡ rowEntries (tableLts n m k sources actions targets) initial B A p
+module _ (t : List ℕ) (initial : Bool) (B A : Rel) where
+  pub row-is : (p : ℕ) → concatBelow (statesOf t) (cellEntries (tableLts t) initial B A p) ≡ rowEntries (tableLts t) initial B A p
   unfolding rowEntries tableLts
   row-is p = refl
 
-  pub round-is : concatBelow n (rowEntries (tableLts n m k sources actions targets) initial B A) ≡ roundEntries (tableLts n m k sources actions targets) initial B A
+  pub round-is : concatBelow (statesOf t) (rowEntries (tableLts t) initial B A) ≡ roundEntries (tableLts t) initial B A
   unfolding roundEntries tableLts
   round-is = refl
 
 -- a row that is as it was has no entries
-module _ (n m k : ℕ) (sources actions targets : List ℕ) (initial : Bool) (g h : List ℕ) (p : ℕ) (okg : Matrix n g) (okh : Matrix n h) (hp : p < n) where
+module _ (t : List ℕ) (initial : Bool) (g h : List ℕ) (p : ℕ) (okg : Matrix (statesOf t) g) (okh : Matrix (statesOf t) h) (hp : p < statesOf t) where
+  abbrev n : ℕ
+  n = statesOf t
+
   abbrev B : Rel
-  B = restrict n (relationOf n g)
+  B = pairsOf t g
 
   abbrev A : Rel
-  A = restrict n (relationOf n h)
+  A = pairsOf t h
 
-  cells-none : (c : ℕ) → ((q : ℕ) → q < c → B p q && not (A p q) ≡ false) → concatBelow c (cellEntries (tableLts n m k sources actions targets) initial B A p) ≡ []
+  cells-none : (c : ℕ) → ((q : ℕ) → q < c → B p q && not (A p q) ≡ false) → concatBelow c (cellEntries (tableLts t) initial B A p) ≡ []
   unfolding concatBelow
   cells-none zero e = refl
-  cells-none (suc c) e = ap₂ (λ (x y : List Entry). x ++ y) (cells-none c (λ q l. e q (le-step l))) (cell-stays (tableLts n m k sources actions targets) initial B A p c (e c (lt-suc-self c)))
+  cells-none (suc c) e =
+      ap₂ (λ (x y : List Entry). x ++ y) (cells-none c (λ q l. e q (le-step l))) (cell-stays (tableLts t) initial B A p c (e c (lt-suc-self c)))
 
-  pub row-same : {x y : List ℕ} → x ≡ drop (p * rowWords n) g → y ≡ drop (p * rowWords n) h → anyBelow (rowWords n * 64) (λ q. xor (inRow x q) (inRow y q)) ≡ false
-      → rowEntries (tableLts n m k sources actions targets) initial B A p ≡ []
+  pub row-same : {states words : ℕ} {x y : List ℕ} → states ≡ n → words ≡ rowWords states → x ≡ drop (p * rowWords states) g → y ≡ drop (p * rowWords states) h
+      → anyBelow (words * 64) (λ q. xor (inRow x q) (inRow y q)) ≡ false → rowEntries (tableLts t) initial B A p ≡ []
   unfolding xor
-  row-same {x} {y} e f same = sym (row-is n m k sources actions targets initial B A p) ∙ cells-none n (λ q l. stays q l)
+  row-same {states} {words} {x} {y} es ew e f same = sym (row-is t initial B A p) ∙ cells-none n (λ q l. stays q l)
     where
+      at : (l : List ℕ) → drop (p * rowWords states) l ≡ drop (p * rowWords n) l
+      at l = ap (λ (k : ℕ). drop (p * rowWords k) l) es
+
       equal : anyBelow n (λ q. xor (relationOf n g p q) (relationOf n h p q)) ≡ false
       equal =
           sym (rows-differ n g h p p okg okh hp hp)
-          ∙ sym (ap₂ (λ (x y : List ℕ). anyBelow (rowWords n * 64) (λ q. xor (inRow x q) (inRow y q))) e f) ∙ same
+          ∙ sym (ap₂ (λ (x y : List ℕ). anyBelow (rowWords n * 64) (λ q. xor (inRow x q) (inRow y q))) (e ∙ at g) (f ∙ at h))
+          ∙ sym (ap (λ (k : ℕ). anyBelow (k * 64) (λ q. xor (inRow x q) (inRow y q))) (ew ∙ ap rowWords es)) ∙ same
 
       apart : (a b : Bool) → (xor a b ≡ true) ⊎ (a && not b ≡ false)
       apart true true = inr refl
@@ -176,9 +189,10 @@ module _ (n m k : ℕ) (sources actions targets : List ℕ) (initial : Bool) (g 
       apart false b = inr refl
 
       stays : (q : ℕ) → q < n → B p q && not (A p q) ≡ false
-      stays q l = sym (leaves-is n (relationOf n g) (relationOf n h) p q hp l refl refl) ∙ go (apart (relationOf n g p q) (relationOf n h p q))
+      stays q l = sym (leaves-is t g h p q hp l refl refl refl) ∙ go (apart (relationOf n g p q) (relationOf n h p q))
         where
-          go : (xor (relationOf n g p q) (relationOf n h p q) ≡ true) ⊎ (relationOf n g p q && not (relationOf n h p q) ≡ false) → relationOf n g p q && not (relationOf n h p q) ≡ false
+          go : (xor (relationOf n g p q) (relationOf n h p q) ≡ true) ⊎ (relationOf n g p q && not (relationOf n h p q) ≡ false)
+              → relationOf n g p q && not (relationOf n h p q) ≡ false
           go (inr z) = z
           go (inl z) = absurd (clash (sym (any-yes n (λ q. xor (relationOf n g p q) (relationOf n h p q)) q l z)) equal)
 

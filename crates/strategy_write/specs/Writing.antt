@@ -1,34 +1,35 @@
 -- What the functions that write a strategy write: the entries of the pairs that leave one relation for the next.
-use Prim.Native.Nat.{ℕ, zero, suc, _≤_, _<_}
+use Prim.Native.Nat.{ℕ, zero, suc, _<_}
 use mathlib.Core.Path.{_≡_}
-use mathlib.Core.Logic.{_⊎_}
 use mathlib.Core.Bool.{Bool, true, false, cond, not, _&&_}
 use mathlib.Core.List.{List, [], _∷_}
-use lib.ListN.{getD}
-use Rattle.lts.specs.Bounded.{concatBelow, lowest}
-use Rattle.lts.specs.System.{Rel, Lts, anyState, into, answered}
+use lib.ListN.{length}
+use lib.Seq.{sets}
+use Rattle.lts.specs.Bounded.{concatBelow, lowest, restrict}
+use Rattle.lts.specs.System.{Rel, Lts, anyState}
 use Rattle.lts.specs.Rounds.{round}
 use Rattle.lts.specs.declared.Entry.{Entry}
-use Rattle.lts.specs.Strategy.{unanswered}
-use Rattle.lts.specs.Table.{Table, Rows}
-use Rattle.rounds.specs.Rounds.{nextRound}
+use Rattle.lts.specs.Strategy.{unanswered, entryNumbers, entriesBefore}
+use Rattle.transitions.specs.Table.{statesOf, actionsOf, countOf, actionAt, targetAt, tableLts, Formed}
+use Rattle.relation.specs.Matrix.{relationOf, matrixOf, Matrix}
+use Rattle.strategy_rounds.specs.Rounds.{nextRound}
 
--- a table with row offsets in normal order: the transitions of a state ascend by action, then by target
-pub record Sorted (n m k : ℕ) (sources actions targets offsets : List ℕ) : Type 0 where
-  pub table : Table n m k sources actions targets
-  pub rows : Rows n k sources offsets
-  pub order : (i j : ℕ) → i < j → j < k → getD sources i 0 ≡ getD sources j 0
-      → (getD actions i 0 < getD actions j 0) ⊎ ((getD actions i 0 ≡ getD actions j 0) × (getD targets i 0 < getD targets j 0))
+-- the pairs of states of the table t that the matrix g holds
+abbrev pub pairsOf : List ℕ → List ℕ → Rel
+pairsOf t g = restrict (statesOf t) (relationOf (statesOf t) g)
 
--- number r of the table is the transition p, a, t to which q has no answer in W, with a the lowest, then t
-pub record Unanswered (L : Lts) (actions targets : List ℕ) (k : ℕ) (W : Rel) (p q r : ℕ) : Type 0 where
-  pub below : r < k
-  pub action : getD actions r 0 ≡ suc (lowest (L .actions) (λ b. anyState L (unanswered L W p q (suc b))))
-  pub target : getD targets r 0 ≡ lowest (L .states) (unanswered L W p q (suc (lowest (L .actions) (λ b. anyState L (unanswered L W p q (suc b))))))
+-- number r of the table t is the transition p, a, x to which q has no answer in W, with a the lowest, then x
+pub record Unanswered (t : List ℕ) (W : Rel) (p q r : ℕ) : Type 0 where
+  pub below : r < countOf t
+  pub action : actionAt t r ≡ suc (lowest (actionsOf t) (λ b. anyState (tableLts t) (unanswered (tableLts t) W p q (suc b))))
+  pub target : targetAt t r ≡ lowest (statesOf t) (unanswered (tableLts t) W p q (actionAt t r))
 
--- `after` is the round after `before`; at round 0 nothing is asked
-abbrev pub Follows : Lts → Bool → Rel → Rel → Type 0
-Follows L initial before after = initial ≡ false → after ≡ nextRound L before
+-- g and h are matrices of two rounds on the table t, the one after the other; at round 0 nothing is asked
+pub record Consecutive (t : List ℕ) (initial : Bool) (g h : List ℕ) : Type 0 where
+  pub formed : Formed t
+  pub before : Matrix (statesOf t) g
+  pub after : Matrix (statesOf t) h
+  pub follows : initial ≡ false → pairsOf t h ≡ nextRound (tableLts t) (pairsOf t g)
 
 -- the entry of a pair that leaves W: a = t = 0 at round 0, otherwise the lowest a, then the lowest t, with no answer in W
 unfoldable pub entryFrom : Lts → Bool → Rel → ℕ → ℕ → Entry
@@ -49,5 +50,12 @@ roundEntries L initial B A = concatBelow (L .states) (rowEntries L initial B A)
 
 -- the pairs that round j looks at: all of them at round 0, otherwise W(j - 1)
 unfoldable pub previous : Lts → Rel → ℕ → Rel
-previous L preorder zero p q = true
-previous L preorder (suc j) p q = round L preorder j p q
+previous L start zero p q = true
+previous L start (suc j) p q = round L start j p q
+
+-- the `at` entries of the pairs that fall before round r, from the start on, are written into d, which is then `numbers`; `current` is the
+-- matrix of the pairs that round r looks at
+pub record WrittenBefore (t start d : List ℕ) (r at : ℕ) (current numbers : List ℕ) : Type 0 where
+  pub place : at ≡ length (entriesBefore (tableLts t) (relationOf (statesOf t) start) r)
+  pub looked : current ≡ matrixOf (statesOf t) (previous (tableLts t) (relationOf (statesOf t) start) r)
+  pub written : numbers ≡ sets d 0 (entryNumbers (entriesBefore (tableLts t) (relationOf (statesOf t) start) r))

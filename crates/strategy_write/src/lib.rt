@@ -1,90 +1,45 @@
 // The strategy of a refuted pair (document 01, "Write plan") on a transition table, written into a slice of 16-bit numbers, four an entry.
 ghost use mathlib.Core.Path.{_≡_};
-ghost use mathlib.Core.Bool.{Bool, true, false};
+ghost use mathlib.Core.Bool.{true, false};
 ghost use mathlib.Core.List.{_∷_, [], _++_};
-ghost use Prim.Native.Nat.{ℕ, _+_, _*_, _<_, _≤_};
-ghost use lib.ListN.{length, getD, drop};
+ghost use Prim.Native.Nat.{_+_, _*_, _<_, _≤_};
+ghost use lib.ListN.{length, drop};
 ghost use lib.Seq.{sets};
-ghost use Rattle.lts.specs.Bounded.{restrict};
 ghost use Rattle.lts.specs.System.{into, answered};
 ghost use Rattle.lts.specs.Rounds.{refutationRound};
 ghost use Rattle.lts.specs.Strategy.{entryNumbers, entriesBefore, strategy, strategyLength};
-ghost use Rattle.lts.specs.Table.{tableLts};
+ghost use Rattle.transitions.specs.Table.{statesOf, tableLts, Formed};
 ghost use Rattle.relation.specs.Matrix.{relationOf, matrixOf, Matrix};
-ghost use Rattle.strategy_write.specs.Writing.{Sorted, Unanswered, Follows, entryFrom, cellEntries, rowEntries, roundEntries, previous};
-
-fn wide(x: u16) -> usize
-    ensures { λ r. ⌜ r ≡ x ⌝ }
-{
-    x as usize
-}
-
-fn wide_action(x: u8) -> u16
-    ensures { λ r. ⌜ r ≡ x ⌝ }
-{
-    x as u16
-}
+ghost use Rattle.strategy_write.specs.Writing.{pairsOf, Consecutive, Unanswered, entryFrom, cellEntries, rowEntries, roundEntries, WrittenBefore};
 
 // Whether state q has a transition by a into row t of `before`.
-fn has_answer(
-    n: usize,
-    m: usize,
-    k: usize,
-    sources: &[u16; 1024],
-    actions: &[u8; 1024],
-    targets: &[u16; 1024],
-    offsets: &[u16; 257],
-    before: &[u64],
-    q: usize,
-    a: u8,
-    t: usize,
-) -> bool
-    requires { ⌜ Sorted n m k (now sources) (now actions) (now targets) (now offsets) × Matrix n (now before) × (q < n) × (t < n) ⌝ }
-    ensures { λ r. ⌜ r ≡ into (tableLts n m k (now (sources .entry)) (now (actions .entry)) (now (targets .entry))) a ((restrict n (relationOf n (now (before .entry)))) t) q ⌝ }
+fn has_answer(table: &transitions::Table, before: &[u64], q: usize, a: usize, t: usize) -> bool
+    requires { ⌜ Formed (now table) × Matrix (statesOf (now table)) (now before) × (q < statesOf (now table)) × (t < statesOf (now table)) ⌝ }
+    ensures { λ r. ⌜ r ≡ into (tableLts (now (table .entry))) a (pairsOf (now (table .entry)) (now (before .entry)) t) q ⌝ }
 {
-    let w = (n + 63) / 64;
-    let end = wide(offsets[q + 1]);
-    let mut i = wide(offsets[q]);
-    while i < end {
-        if (actions[i] == a) & relation::has(before, w, t, wide(targets[i])) {
-            return true;
-        }
-        i += 1;
-    }
-    false
+    let n = transitions::states(table);
+    rows::row_meets(
+        &transitions::successors(table, q, a),
+        relation::row_at(before, n, t),
+        rows::row_words(n),
+    )
 }
 
 // The first transition of p to which q has no answer into `before`.
-fn first_unanswered(
-    n: usize,
-    m: usize,
-    k: usize,
-    sources: &[u16; 1024],
-    actions: &[u8; 1024],
-    targets: &[u16; 1024],
-    offsets: &[u16; 257],
-    before: &[u64],
-    p: usize,
-    q: usize,
-) -> usize
-    requires { ⌜ Sorted n m k (now sources) (now actions) (now targets) (now offsets) × Matrix n (now before) × (p < n) × (q < n) × (answered (tableLts n m k (now sources) (now actions) (now targets)) (restrict n (relationOf n (now before))) p q ≡ false) ⌝ }
-    ensures { λ r. ⌜ Unanswered (tableLts n m k (now (sources .entry)) (now (actions .entry)) (now (targets .entry))) (now (actions .entry)) (now (targets .entry)) k (restrict n (relationOf n (now (before .entry)))) p q r ⌝ }
+fn first_unanswered(table: &transitions::Table, before: &[u64], p: usize, q: usize) -> usize
+    requires { ⌜ Formed (now table) × Matrix (statesOf (now table)) (now before) × (p < statesOf (now table)) × (q < statesOf (now table)) ⌝ }
+    requires { ⌜ answered (tableLts (now table)) (pairsOf (now table) (now before)) p q ≡ false ⌝ }
+    ensures { λ r. ⌜ Unanswered (now (table .entry)) (pairsOf (now (table .entry)) (now (before .entry))) p q r ⌝ }
 {
-    let end = wide(offsets[p + 1]);
-    let mut i = wide(offsets[p]);
+    let end = transitions::offset(table, p + 1);
+    let mut i = transitions::offset(table, p);
     while i < end {
         if !has_answer(
-            n,
-            m,
-            k,
-            sources,
-            actions,
-            targets,
-            offsets,
+            table,
             before,
             q,
-            actions[i],
-            wide(targets[i]),
+            transitions::action(table, i),
+            transitions::target(table, i),
         ) {
             return i;
         }
@@ -107,13 +62,7 @@ fn put_entry(numbers: &mut [u16], at: usize, p: u16, q: u16, a: u16, t: u16)
 
 // Writes the entry of (p, q), which leaves `before`; at round 0 with a = t = 0.
 fn write_pair(
-    n: usize,
-    m: usize,
-    k: usize,
-    sources: &[u16; 1024],
-    actions: &[u8; 1024],
-    targets: &[u16; 1024],
-    offsets: &[u16; 257],
+    table: &transitions::Table,
     before: &[u64],
     initial: bool,
     p: usize,
@@ -121,33 +70,35 @@ fn write_pair(
     numbers: &mut [u16],
     at: usize,
 )
-    requires { ⌜ Sorted n m k (now sources) (now actions) (now targets) (now offsets) × Matrix n (now before) × (p < n) × (q < n) × (initial ≡ false → answered (tableLts n m k (now sources) (now actions) (now targets)) (restrict n (relationOf n (now before))) p q ≡ false) × (4 * (at + 1) ≤ length (now numbers)) ⌝ }
-    ensures { λ _. ⌜ now (numbers .exit) ≡ sets (now (numbers .entry)) (4 * at) (entryNumbers (entryFrom (tableLts n m k (now (sources .entry)) (now (actions .entry)) (now (targets .entry))) initial (restrict n (relationOf n (now (before .entry)))) p q ∷ [])) ⌝ }
+    requires { ⌜ (
+        let n = statesOf (now table) in
+        Formed (now table) × Matrix n (now before) × (p < n) × (q < n) × (4 * (at + 1) ≤ length (now numbers))
+        ) ⌝ }
+    requires { ⌜ (initial ≡ false → answered (tableLts (now table)) (pairsOf (now table) (now before)) p q ≡ false) ⌝ }
+    ensures { λ _. ⌜ (
+        let t = now (table .entry) in
+        let e = entryFrom (tableLts t) initial (pairsOf t (now (before .entry))) p q in
+        now (numbers .exit) ≡ sets (now (numbers .entry)) (4 * at) (entryNumbers (e ∷ []))
+        ) ⌝ }
 {
     if initial {
         put_entry(numbers, at, p as u16, q as u16, 0, 0);
         return;
     }
-    let i = first_unanswered(n, m, k, sources, actions, targets, offsets, before, p, q);
+    let i = first_unanswered(table, before, p, q);
     put_entry(
         numbers,
         at,
         p as u16,
         q as u16,
-        wide_action(actions[i]),
-        targets[i],
+        transitions::action(table, i) as u16,
+        transitions::target(table, i) as u16,
     );
 }
 
 // Writes the entry of (p, q) if it is in `before` and not in `after`. Gives the place of the next entry.
 fn write_cell(
-    n: usize,
-    m: usize,
-    k: usize,
-    sources: &[u16; 1024],
-    actions: &[u8; 1024],
-    targets: &[u16; 1024],
-    offsets: &[u16; 257],
+    table: &transitions::Table,
     before: &[u64],
     after: &[u64],
     initial: bool,
@@ -156,27 +107,25 @@ fn write_cell(
     numbers: &mut [u16],
     at: usize,
 ) -> usize
-    requires { ⌜ Sorted n m k (now sources) (now actions) (now targets) (now offsets) × Matrix n (now before) × Matrix n (now after) × Follows (tableLts n m k (now sources) (now actions) (now targets)) initial (restrict n (relationOf n (now before))) (restrict n (relationOf n (now after))) × (p < n) × (q < n) × (4 * (at + length (cellEntries (tableLts n m k (now sources) (now actions) (now targets)) initial (restrict n (relationOf n (now before))) (restrict n (relationOf n (now after))) p q)) ≤ length (now numbers)) ⌝ }
-    ensures { λ r. ⌜ r ≡ at + length (cellEntries (tableLts n m k (now (sources .entry)) (now (actions .entry)) (now (targets .entry))) initial (restrict n (relationOf n (now (before .entry)))) (restrict n (relationOf n (now (after .entry)))) p q) ⌝ }
-    ensures { λ r. ⌜ now (numbers .exit) ≡ sets (now (numbers .entry)) (4 * at) (entryNumbers (cellEntries (tableLts n m k (now (sources .entry)) (now (actions .entry)) (now (targets .entry))) initial (restrict n (relationOf n (now (before .entry)))) (restrict n (relationOf n (now (after .entry)))) p q)) ⌝ }
+    requires { ⌜ Consecutive (now table) initial (now before) (now after) × (p < statesOf (now table)) × (q < statesOf (now table)) ⌝ }
+    requires { ⌜ (
+        let t = now table in
+        let es = cellEntries (tableLts t) initial (pairsOf t (now before)) (pairsOf t (now after)) p q in
+        4 * (at + length es) ≤ length (now numbers)
+        ) ⌝ }
+    ensures { λ r. ⌜ (
+        let t = now (table .entry) in
+        r ≡ at + length (cellEntries (tableLts t) initial (pairsOf t (now (before .entry))) (pairsOf t (now (after .entry))) p q)
+        ) ⌝ }
+    ensures { λ _. ⌜ (
+        let t = now (table .entry) in
+        let es = cellEntries (tableLts t) initial (pairsOf t (now (before .entry))) (pairsOf t (now (after .entry))) p q in
+        now (numbers .exit) ≡ sets (now (numbers .entry)) (4 * at) (entryNumbers es)
+        ) ⌝ }
 {
-    let w = (n + 63) / 64;
-    if relation::has(before, w, p, q) & !relation::has(after, w, p, q) {
-        write_pair(
-            n,
-            m,
-            k,
-            sources,
-            actions,
-            targets,
-            offsets,
-            before,
-            initial,
-            p,
-            q,
-            numbers,
-            at,
-        );
+    let n = transitions::states(table);
+    if relation::relates(before, n, p, q) & !relation::relates(after, n, p, q) {
+        write_pair(table, before, initial, p, q, numbers, at);
         return at + 1;
     }
     at
@@ -184,13 +133,7 @@ fn write_cell(
 
 // The same for row p.
 fn write_row(
-    n: usize,
-    m: usize,
-    k: usize,
-    sources: &[u16; 1024],
-    actions: &[u8; 1024],
-    targets: &[u16; 1024],
-    offsets: &[u16; 257],
+    table: &transitions::Table,
     before: &[u64],
     after: &[u64],
     initial: bool,
@@ -198,29 +141,27 @@ fn write_row(
     numbers: &mut [u16],
     first: usize,
 ) -> usize
-    requires { ⌜ Sorted n m k (now sources) (now actions) (now targets) (now offsets) × Matrix n (now before) × Matrix n (now after) × Follows (tableLts n m k (now sources) (now actions) (now targets)) initial (restrict n (relationOf n (now before))) (restrict n (relationOf n (now after))) × (p < n) × (4 * (first + length (rowEntries (tableLts n m k (now sources) (now actions) (now targets)) initial (restrict n (relationOf n (now before))) (restrict n (relationOf n (now after))) p)) ≤ length (now numbers)) ⌝ }
-    ensures { λ r. ⌜ r ≡ first + length (rowEntries (tableLts n m k (now (sources .entry)) (now (actions .entry)) (now (targets .entry))) initial (restrict n (relationOf n (now (before .entry)))) (restrict n (relationOf n (now (after .entry)))) p) ⌝ }
-    ensures { λ r. ⌜ now (numbers .exit) ≡ sets (now (numbers .entry)) (4 * first) (entryNumbers (rowEntries (tableLts n m k (now (sources .entry)) (now (actions .entry)) (now (targets .entry))) initial (restrict n (relationOf n (now (before .entry)))) (restrict n (relationOf n (now (after .entry)))) p)) ⌝ }
+    requires { ⌜ Consecutive (now table) initial (now before) (now after) × (p < statesOf (now table)) ⌝ }
+    requires { ⌜ (
+        let t = now table in
+        let es = rowEntries (tableLts t) initial (pairsOf t (now before)) (pairsOf t (now after)) p in
+        4 * (first + length es) ≤ length (now numbers)
+        ) ⌝ }
+    ensures { λ r. ⌜ (
+        let t = now (table .entry) in
+        r ≡ first + length (rowEntries (tableLts t) initial (pairsOf t (now (before .entry))) (pairsOf t (now (after .entry))) p)
+        ) ⌝ }
+    ensures { λ _. ⌜ (
+        let t = now (table .entry) in
+        let es = rowEntries (tableLts t) initial (pairsOf t (now (before .entry))) (pairsOf t (now (after .entry))) p in
+        now (numbers .exit) ≡ sets (now (numbers .entry)) (4 * first) (entryNumbers es)
+        ) ⌝ }
 {
+    let n = transitions::states(table);
     let mut at = first;
     let mut q = 0;
     while q < n {
-        at = write_cell(
-            n,
-            m,
-            k,
-            sources,
-            actions,
-            targets,
-            offsets,
-            before,
-            after,
-            initial,
-            p,
-            q,
-            numbers,
-            at,
-        );
+        at = write_cell(table, before, after, initial, p, q, numbers, at);
         q += 1;
     }
     at
@@ -228,13 +169,7 @@ fn write_row(
 
 // The same for row p, which is often as it was.
 fn write_changed_row(
-    n: usize,
-    m: usize,
-    k: usize,
-    sources: &[u16; 1024],
-    actions: &[u8; 1024],
-    targets: &[u16; 1024],
-    offsets: &[u16; 257],
+    table: &transitions::Table,
     before: &[u64],
     after: &[u64],
     initial: bool,
@@ -242,72 +177,63 @@ fn write_changed_row(
     numbers: &mut [u16],
     first: usize,
 ) -> usize
-    requires { ⌜ Sorted n m k (now sources) (now actions) (now targets) (now offsets) × Matrix n (now before) × Matrix n (now after) × Follows (tableLts n m k (now sources) (now actions) (now targets)) initial (restrict n (relationOf n (now before))) (restrict n (relationOf n (now after))) × (p < n) × (4 * (first + length (rowEntries (tableLts n m k (now sources) (now actions) (now targets)) initial (restrict n (relationOf n (now before))) (restrict n (relationOf n (now after))) p)) ≤ length (now numbers)) ⌝ }
-    ensures { λ r. ⌜ r ≡ first + length (rowEntries (tableLts n m k (now (sources .entry)) (now (actions .entry)) (now (targets .entry))) initial (restrict n (relationOf n (now (before .entry)))) (restrict n (relationOf n (now (after .entry)))) p) ⌝ }
-    ensures { λ r. ⌜ now (numbers .exit) ≡ sets (now (numbers .entry)) (4 * first) (entryNumbers (rowEntries (tableLts n m k (now (sources .entry)) (now (actions .entry)) (now (targets .entry))) initial (restrict n (relationOf n (now (before .entry)))) (restrict n (relationOf n (now (after .entry)))) p)) ⌝ }
+    requires { ⌜ Consecutive (now table) initial (now before) (now after) × (p < statesOf (now table)) ⌝ }
+    requires { ⌜ (
+        let t = now table in
+        let es = rowEntries (tableLts t) initial (pairsOf t (now before)) (pairsOf t (now after)) p in
+        4 * (first + length es) ≤ length (now numbers)
+        ) ⌝ }
+    ensures { λ r. ⌜ (
+        let t = now (table .entry) in
+        r ≡ first + length (rowEntries (tableLts t) initial (pairsOf t (now (before .entry))) (pairsOf t (now (after .entry))) p)
+        ) ⌝ }
+    ensures { λ _. ⌜ (
+        let t = now (table .entry) in
+        let es = rowEntries (tableLts t) initial (pairsOf t (now (before .entry))) (pairsOf t (now (after .entry))) p in
+        now (numbers .exit) ≡ sets (now (numbers .entry)) (4 * first) (entryNumbers es)
+        ) ⌝ }
 {
-    let w = (n + 63) / 64;
-    if relation::row_differs(
+    let n = transitions::states(table);
+    if rows::row_differs(
         relation::row_at(before, n, p),
         relation::row_at(after, n, p),
-        w,
+        rows::row_words(n),
     ) {
-        return write_row(
-            n,
-            m,
-            k,
-            sources,
-            actions,
-            targets,
-            offsets,
-            before,
-            after,
-            initial,
-            p,
-            numbers,
-            first,
-        );
+        return write_row(table, before, after, initial, p, numbers, first);
     }
     first
 }
 
 // The same for all rows.
 fn write_round(
-    n: usize,
-    m: usize,
-    k: usize,
-    sources: &[u16; 1024],
-    actions: &[u8; 1024],
-    targets: &[u16; 1024],
-    offsets: &[u16; 257],
+    table: &transitions::Table,
     before: &[u64],
     after: &[u64],
     initial: bool,
     numbers: &mut [u16],
     first: usize,
 ) -> usize
-    requires { ⌜ Sorted n m k (now sources) (now actions) (now targets) (now offsets) × Matrix n (now before) × Matrix n (now after) × Follows (tableLts n m k (now sources) (now actions) (now targets)) initial (restrict n (relationOf n (now before))) (restrict n (relationOf n (now after))) × (4 * (first + length (roundEntries (tableLts n m k (now sources) (now actions) (now targets)) initial (restrict n (relationOf n (now before))) (restrict n (relationOf n (now after))))) ≤ length (now numbers)) ⌝ }
-    ensures { λ r. ⌜ r ≡ first + length (roundEntries (tableLts n m k (now (sources .entry)) (now (actions .entry)) (now (targets .entry))) initial (restrict n (relationOf n (now (before .entry)))) (restrict n (relationOf n (now (after .entry))))) ⌝ }
-    ensures { λ r. ⌜ now (numbers .exit) ≡ sets (now (numbers .entry)) (4 * first) (entryNumbers (roundEntries (tableLts n m k (now (sources .entry)) (now (actions .entry)) (now (targets .entry))) initial (restrict n (relationOf n (now (before .entry)))) (restrict n (relationOf n (now (after .entry)))))) ⌝ }
+    requires { ⌜ Consecutive (now table) initial (now before) (now after) ⌝ }
+    requires { ⌜ (
+        let t = now table in
+        let es = roundEntries (tableLts t) initial (pairsOf t (now before)) (pairsOf t (now after)) in
+        4 * (first + length es) ≤ length (now numbers)
+        ) ⌝ }
+    ensures { λ r. ⌜ (
+        let t = now (table .entry) in
+        r ≡ first + length (roundEntries (tableLts t) initial (pairsOf t (now (before .entry))) (pairsOf t (now (after .entry))))
+        ) ⌝ }
+    ensures { λ _. ⌜ (
+        let t = now (table .entry) in
+        let es = roundEntries (tableLts t) initial (pairsOf t (now (before .entry))) (pairsOf t (now (after .entry))) in
+        now (numbers .exit) ≡ sets (now (numbers .entry)) (4 * first) (entryNumbers es)
+        ) ⌝ }
 {
+    let n = transitions::states(table);
     let mut at = first;
     let mut p = 0;
     while p < n {
-        at = write_changed_row(
-            n,
-            m,
-            k,
-            sources,
-            actions,
-            targets,
-            offsets,
-            before,
-            after,
-            initial,
-            p,
-            numbers,
-            at,
-        );
+        at = write_changed_row(table, before, after, initial, p, numbers, at);
         p += 1;
     }
     at
@@ -316,44 +242,30 @@ fn write_round(
 // Writes the entries of the pairs that fall before round `rounds`, from all pairs in `current` and W0 in `next`. Leaves in `current` the
 // round before that.
 fn write_rounds(
-    n: usize,
-    m: usize,
-    k: usize,
-    sources: &[u16; 1024],
-    actions: &[u8; 1024],
-    targets: &[u16; 1024],
-    offsets: &[u16; 257],
+    table: &transitions::Table,
     current: &mut [u64],
     next: &mut [u64],
     rounds: usize,
     numbers: &mut [u16],
 ) -> usize
-    requires { ⌜ Sorted n m k (now sources) (now actions) (now targets) (now offsets) × Matrix n (now next) × (now current ≡ matrixOf n (λ p q. true)) × (4 * length (entriesBefore (tableLts n m k (now sources) (now actions) (now targets)) (relationOf n (now next)) rounds) ≤ length (now numbers)) ⌝ }
-    ensures { λ r. ⌜ r ≡ length (entriesBefore (tableLts n m k (now (sources .entry)) (now (actions .entry)) (now (targets .entry))) (relationOf n (now (next .entry))) rounds) ⌝ }
-    ensures { λ r. ⌜ now (current .exit) ≡ matrixOf n (previous (tableLts n m k (now (sources .entry)) (now (actions .entry)) (now (targets .entry))) (relationOf n (now (next .entry))) rounds) ⌝ }
-    ensures { λ r. ⌜ now (numbers .exit) ≡ sets (now (numbers .entry)) 0 (entryNumbers (entriesBefore (tableLts n m k (now (sources .entry)) (now (actions .entry)) (now (targets .entry))) (relationOf n (now (next .entry))) rounds)) ⌝ }
+    requires { ⌜ Formed (now table) × Matrix (statesOf (now table)) (now next) × (now current ≡ matrixOf (statesOf (now table)) (λ p q. true)) ⌝ }
+    requires { ⌜ (
+        let W = relationOf (statesOf (now table)) (now next) in
+        4 * length (entriesBefore (tableLts (now table)) W rounds) ≤ length (now numbers)
+        ) ⌝ }
+    ensures { λ r. ⌜ (
+        WrittenBefore (now (table .entry)) (now (next .entry)) (now (numbers .entry)) rounds r (now (current .exit)) (now (numbers .exit))
+        ) ⌝ }
 {
+    let n = transitions::states(table);
     let mut settled = [0u64; 4];
     let mut at = 0;
     let mut i = 0;
     while i < rounds {
-        at = write_round(
-            n,
-            m,
-            k,
-            sources,
-            actions,
-            targets,
-            offsets,
-            current,
-            next,
-            i == 0,
-            numbers,
-            at,
-        );
+        at = write_round(table, current, next, i == 0, numbers, at);
         relation::copy_matrix(current, next);
-        rounds::next_round(n, m, k, sources, actions, targets, current, next, &settled);
-        settled = rounds::same_rows(n, current, next);
+        strategy_rounds::next_round(table, current, next, &settled);
+        settled = strategy_rounds::same_rows(n, current, next);
         i += 1;
     }
     at
@@ -361,14 +273,8 @@ fn write_rounds(
 
 // Writes the strategy of (p, q), which falls at round `round`, with two matrices to work in.
 fn write_from(
-    n: usize,
-    m: usize,
-    k: usize,
-    sources: &[u16; 1024],
-    actions: &[u8; 1024],
-    targets: &[u16; 1024],
-    offsets: &[u16; 257],
-    preorder: &[u64],
+    table: &transitions::Table,
+    start: &[u64],
     current: &mut [u64],
     next: &mut [u64],
     p: usize,
@@ -376,71 +282,54 @@ fn write_from(
     round: usize,
     numbers: &mut [u16],
 )
-    requires { ⌜ Sorted n m k (now sources) (now actions) (now targets) (now offsets) × Matrix n (now preorder) × (p < n) × (q < n) × (round ≡ refutationRound (tableLts n m k (now sources) (now actions) (now targets)) (relationOf n (now preorder)) p q) × (round ≤ n * n) × (4 * strategyLength (tableLts n m k (now sources) (now actions) (now targets)) (relationOf n (now preorder)) p q ≤ length (now numbers)) × (length (now current) ≡ length (now preorder)) × (length (now preorder) ≡ length (now next)) ⌝ }
-    ensures { λ _. ⌜ now (numbers .exit) ≡ entryNumbers (strategy (tableLts n m k (now (sources .entry)) (now (actions .entry)) (now (targets .entry))) (relationOf n (now (preorder .entry))) p q) ++ drop (4 * strategyLength (tableLts n m k (now (sources .entry)) (now (actions .entry)) (now (targets .entry))) (relationOf n (now (preorder .entry))) p q) (now (numbers .entry)) ⌝ }
+    requires { ⌜ (
+        let L = tableLts (now table) in
+        let n = statesOf (now table) in
+        let R = relationOf n (now start) in
+        Formed (now table) × Matrix n (now start) × (p < n) × (q < n) × (round ≡ refutationRound L R p q) × (round ≤ n * n)
+        × (4 * strategyLength L R p q ≤ length (now numbers))
+        ) ⌝ }
+    requires { ⌜ (length (now current) ≡ length (now start)) × (length (now start) ≡ length (now next)) ⌝ }
+    ensures { λ _. ⌜ (
+        let L = tableLts (now (table .entry)) in
+        let R = relationOf (statesOf (now (table .entry))) (now (start .entry)) in
+        now (numbers .exit) ≡ entryNumbers (strategy L R p q) ++ drop (4 * strategyLength L R p q) (now (numbers .entry))
+        ) ⌝ }
 {
-    relation::write_all_pairs(n, current);
-    relation::copy_matrix(next, preorder);
-    let at = write_rounds(
-        n,
-        m,
-        k,
-        sources,
-        actions,
-        targets,
-        offsets,
-        current,
-        next,
-        round,
-        numbers,
-    );
-    write_pair(
-        n,
-        m,
-        k,
-        sources,
-        actions,
-        targets,
-        offsets,
-        current,
-        round == 0,
-        p,
-        q,
-        numbers,
-        at,
-    );
+    relation::write_all_pairs(transitions::states(table), current);
+    relation::copy_matrix(next, start);
+    let at = write_rounds(table, current, next, round, numbers);
+    write_pair(table, current, round == 0, p, q, numbers, at);
 }
 
 // Writes the strategy of (p, q), which falls at round `round`.
 pub fn write_table(
-    n: usize,
-    m: usize,
-    k: usize,
-    sources: &[u16; 1024],
-    actions: &[u8; 1024],
-    targets: &[u16; 1024],
-    offsets: &[u16; 257],
-    preorder: &[u64],
+    table: &transitions::Table,
+    start: &[u64],
     p: usize,
     q: usize,
     round: usize,
     numbers: &mut [u16],
 )
-    requires { ⌜ Sorted n m k (now sources) (now actions) (now targets) (now offsets) × Matrix n (now preorder) × (p < n) × (q < n) × (round ≡ refutationRound (tableLts n m k (now sources) (now actions) (now targets)) (relationOf n (now preorder)) p q) × (round ≤ n * n) × (4 * strategyLength (tableLts n m k (now sources) (now actions) (now targets)) (relationOf n (now preorder)) p q ≤ length (now numbers)) ⌝ }
-    ensures { λ _. ⌜ now (numbers .exit) ≡ entryNumbers (strategy (tableLts n m k (now (sources .entry)) (now (actions .entry)) (now (targets .entry))) (relationOf n (now (preorder .entry))) p q) ++ drop (4 * strategyLength (tableLts n m k (now (sources .entry)) (now (actions .entry)) (now (targets .entry))) (relationOf n (now (preorder .entry))) p q) (now (numbers .entry)) ⌝ }
+    requires { ⌜ (
+        let L = tableLts (now table) in
+        let n = statesOf (now table) in
+        let R = relationOf n (now start) in
+        Formed (now table) × Matrix n (now start) × (p < n) × (q < n) × (round ≡ refutationRound L R p q) × (round ≤ n * n)
+        × (4 * strategyLength L R p q ≤ length (now numbers))
+        ) ⌝ }
+    ensures { λ _. ⌜ (
+        let L = tableLts (now (table .entry)) in
+        let R = relationOf (statesOf (now (table .entry))) (now (start .entry)) in
+        now (numbers .exit) ≡ entryNumbers (strategy L R p q) ++ drop (4 * strategyLength L R p q) (now (numbers .entry))
+        ) ⌝ }
 {
-    let size = preorder.len();
+    let size = start.len();
     let mut current = [0u64; 1024];
     let mut next = [0u64; 1024];
     write_from(
-        n,
-        m,
-        k,
-        sources,
-        actions,
-        targets,
-        offsets,
-        preorder,
+        table,
+        start,
         &mut current[..size],
         &mut next[..size],
         p,

@@ -1,42 +1,45 @@
-use mathlib.Core.Path.{_∙_}
+-- `coarsest::refine_encoding` meets its contract: the table that was loaded has the sheet's system. Assumes nothing.
+use mathlib.Core.Path.{_≡_, sym, ap₂, subst⁻¹, _∙_}
+use Prim.Native.Nat.{ℕ, _*_}
+use lib.ListN.{length}
 use denote.Ref.{now}
+use Rattle.lts.specs.System.{Lts}
+use Rattle.rows.specs.Rows.{rowWords}
 use Rattle.relation.specs.Matrix.{relationOf}
-use Rattle.coarsest.proofs.Laws.{start-of, refined-terminating}
+use Rattle.transitions.proofs.Filled.{sheet-states}
+use Rattle.refinement.specs.Engine.{Start}
+use Rattle.coarsest.specs.Call.{refined}
+use Rattle.coarsest.proofs.Laws.{start-of}
 use borrow.Author.Needs.{needs}
 use Rattle.coarsest.proofs.refine_encoding.Statement.{statement}
 use Rattle.coarsest.proofs.refine_encoding.Tie as tie
-use Rattle.coarsest.proofs.refine_encoding.Reads as reads
-use Rattle.coarsest.proofs.refine_encoding.Lts as lts
-use Rattle.coarsest.proofs.refine_table.Reads as refine-table-reads
-use Rattle.encoding.proofs.load.Reads as load-reads
 
--- src/lib.rt:165:5
 load-requires : tie.Need-load-requires
 load-requires c κs = search needs
 
--- src/lib.rt:177:5
 refine-table-requires : tie.Need-refine-table-requires
 refine-table-requires c κs =
-    let start = c .before .before .before .before .before .before .before .before .before .before .before .before .before .before .before .before in
+    let start = c .before .before .before .before .before .before .before .before .before in
     let a = start .args in
-    let loaded = c .before .before .before .before .before .load .ensures in
-    (loaded .table, start-of (a .h .states) (now (a .start)) (start .pre .0 .checked), start .pre .1 .1, start .pre .1 .0)
+    let k = c .before .before .before .load .ensures in
+    let states = sheet-states (now (a .s)) (a .h) (start .pre .0 .readable) k in
+    let fit = subst⁻¹ (λ (n : ℕ). Start n (now (a .start)) × (length (now (a .representatives)) ≡ n) × (length (now (a .grid)) ≡ n * rowWords n)) states
+    (start-of (a .h .states) (now (a .start)) (start .pre .0 .checked), start .pre .1 .1, start .pre .1 .0) in
+    (k .formed, fit .0, fit .1, fit .2)
 
--- src/lib.rt:146:1
 same-length : tie.Need-same-length
 same-length c = search needs
 
--- src/lib.rt:146:1
 same-length-2 : tie.Need-same-length-2
 same-length-2 c = search needs
 
--- src/lib.rt:146:1
 returns : tie.Need-returns
 returns c =
-    let start = c .before .before .before .before .before .before .before .before .before .before .before .before .before .before .before .before .before .before .before .before .before in
+    let start = c .before .before .before .before .before .before .before .before .before .before .before .before .before .before in
     let a = start .args in
-    let same = c .before .before .before .before .before .before .before .before .before .before .load .ensures .same in
-    rw same (refined-terminating _ _ (relationOf (a .h .states) (now (a .start))) (now (a .schedule)) ∙ c .before .before .before .before .refine-table .ensures)
+    let k = c .before .before .before .before .before .before .before .before .load .ensures in
+    ap₂ (λ (L : Lts) (n : ℕ). refined L (relationOf n (now (a .start))) (now (a .schedule))) (sym (k .same)) (sym (sheet-states (now (a .s)) (a .h) (start .pre .0 .readable) k))
+    ∙ c .before .before .before .before .refine-table .ensures
 
 pub refine-encoding-spec : {M : Type 1} → statement M
 refine-encoding-spec =

@@ -7,7 +7,7 @@ use lib.ListN.{getD}
 use lib.Dec.{eqb}
 use borrow.Author.Tests.{eq-eqb, ne-eqb}
 use Rattle.lts.specs.Bounded.{allBelow}
-use Rattle.encoding.proofs.Bounded.{all-none, all-more, all-stop, all-done}
+use Rattle.lts.proofs.Lists.{all-none, all-more, all-stop, all-done}
 use Rattle.encoding.proofs.all_marked.Statement.{statement}
 use Rattle.encoding.proofs.all_marked.Tie as tie
 

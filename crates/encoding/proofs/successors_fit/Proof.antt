@@ -9,7 +9,7 @@ use mathlib.Core.List.{map}
 use lib.ListN.{getD, length}
 use Rattle.lts.specs.Bounded.{allBelow}
 use Rattle.encoding.specs.Encoding.{distinct, successor, chain, successorsFit}
-use Rattle.encoding.proofs.Bounded.{all-none, all-more, all-stop, all-done}
+use Rattle.lts.proofs.Lists.{all-none, all-more, all-stop, all-done}
 use Rattle.encoding.proofs.Chains.{zeros-at, zeros-long, stamp-test, stamp-next}
 use Rattle.encoding.proofs.successors_fit.Statement.{statement}
 use Rattle.encoding.proofs.successors_fit.Tie as tie

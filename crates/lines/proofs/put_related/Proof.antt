@@ -3,22 +3,18 @@ use mathlib.Core.Path.{sym, _∙_}
 use native.Mathlib.Omega.{arith}
 use borrow.Author.Tests.{not-true, not-false}
 use Rattle.relation.specs.Matrix.{relationOf}
-use Rattle.relation.proofs.Matrices.{pair-word}
 use Rattle.lines.proofs.Laws.{put-none, related-yes, related-no, three-digits}
 use borrow.Author.Needs.{needs}
 use Rattle.lines.proofs.put_related.Statement.{statement}
 use Rattle.lines.proofs.put_related.Tie as tie
 
-add-w : tie.Need-add-w
-add-w c = search needs
-
-has-requires : tie.Need-has-requires
-has-requires c κs = let s = c .before .before in pair-word (s .args .n) (s .args .grid .now) (s .pre .2) (s .pre .3) (s .pre .0)
+relates-requires : tie.Need-relates-requires
+relates-requires c κs = let s = c .before .before in (s .pre .0, s .pre .1, s .pre .2, s .pre .3)
 
 returns : tie.Need-returns
 returns c =
     let a = c .before .before .before .before .args in
-    let e = related-no (relationOf (a .n) (a .grid .now)) (a .p) (a .q) (sym (c .before .has .ensures) ∙ not-true _ (c .if1 .taken)) in
+    let e = related-no (relationOf (a .n) (a .grid .now)) (a .p) (a .q) (sym (c .before .relates .ensures) ∙ not-true _ (c .if1 .taken)) in
     let w = put-none (a .at) (a .out .now) in
     (rw e (w .place), (rw e (w .bytes), omega arith))
 
@@ -34,7 +30,7 @@ same-length c = search needs
 returns-2 : tie.Need-returns-2
 returns-2 c =
     let a = c .before .before .before .before .before .before .before .before .before .args in
-    let e = related-yes (relationOf (a .n) (a .grid .now)) (a .p) (a .q) (sym (c .before .before .before .before .before .before .has .ensures) ∙ not-false _ (c .before .before .before .before .before .if1 .left)) in
+    let e = related-yes (relationOf (a .n) (a .grid .now)) (a .p) (a .q) (sym (c .before .before .before .before .before .before .relates .ensures) ∙ not-false _ (c .before .before .before .before .before .if1 .left)) in
     let w = c .before .before .put-number .ensures in
     (rw e (w .0), (rw e (w .1 .0), omega (arith, three-digits (a .q) (omega arith))))
 
@@ -42,8 +38,7 @@ pub put-related-spec : {M : Type 1} → statement M
 put-related-spec =
     tie.close
     (tie.spec
-    add-w
-    has-requires
+    relates-requires
     returns
     slice-aggregate-put-number
     put-number-requires

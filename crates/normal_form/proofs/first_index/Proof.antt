@@ -1,7 +1,7 @@
 -- `encoding::first_index` meets its contract.
 use borrow.Author.Needs.{needs}
 use borrow.Author.Tests.{eq-eqb, ne-eqb}
-use Rattle.encoding.specs.Normal.{firstIndex}
+use Rattle.normal_form.specs.Normal.{firstIndex}
 use Rattle.normal_form.proofs.first_index.Statement.{statement}
 use Rattle.normal_form.proofs.first_index.Tie as tie
 

@@ -1,8 +1,10 @@
--- `encoding::normalise` meets its contract, by the cases of the reading.
-use borrow.Author.Needs.{needs}
+-- `normal_form::normalise` meets its contract, by the cases of the reading.
 use mathlib.Core.Path.{_∙_, sym}
-use Rattle.normal_form.proofs.Outcomes.{stopped, misfit, written}
+use native.Mathlib.Nat.{le-of-eq}
+use denote.Ref.{now}
 use Rattle.encoding.proofs.Reader.{readable-of}
+use Rattle.normal_form.proofs.Outcomes.{stopped, misfit, fills, written}
+use borrow.Author.Needs.{needs}
 use Rattle.normal_form.proofs.normalise.Statement.{statement}
 use Rattle.normal_form.proofs.normalise.Tie as tie
 
@@ -16,14 +18,19 @@ enum-known-answer-2 : tie.Need-enum-known-answer-2
 enum-known-answer-2 c = search needs
 
 returns : tie.Need-returns
-returns c =
-    let a = c .before .before in
+returns c = let a = c .before .before in
     misfit _ _ (sym (a .before .before .read-encoding .ensures .0) ∙ a .answer2 .given .1) (c .if1 .taken)
 
-write-normal-requires : tie.Need-write-normal-requires
-write-normal-requires c κs =
-    let a = c .before .before .before in
-    (readable-of (sym (a .before .before .read-encoding .ensures .0) ∙ a .answer2 .given .1), c .before .if1 .left)
+load-requires : tie.Need-load-requires
+load-requires c κs = let a = c .before .before in
+    readable-of (sym (a .before .before .read-encoding .ensures .0) ∙ a .answer2 .given .1)
+
+write-table-requires : tie.Need-write-table-requires
+write-table-requires c κs =
+    let at = c .before .before in
+    let a = at .before .before .before in
+    let read = sym (a .before .before .read-encoding .ensures .0) ∙ a .answer2 .given .1 in
+    (at .load .ensures .formed, le-of-eq (fills _ (now (a .before .before .before .before .before .args .out)) read (at .before .if1 .left) (at .load .ensures)))
 
 returns-2 : tie.Need-returns-2
 returns-2 c = stopped _ _ (sym (c .before .before .before .read-encoding .ensures .0) ∙ c .before .answer .given .1)
@@ -33,8 +40,10 @@ same-length c = search needs
 
 returns-3 : tie.Need-returns-3
 returns-3 c =
-    let a = c .before .before .before .before .before .before in
-    written _ _ (sym (a .before .before .read-encoding .ensures .0) ∙ a .answer2 .given .1) (c .before .before .before .before .if1 .left) (c .before .before .write-normal .ensures)
+    let at = c .before .before .before .before .before in
+    let a = at .before .before .before in
+    let read = sym (a .before .before .read-encoding .ensures .0) ∙ a .answer2 .given .1 in
+    written _ _ read (at .before .if1 .left) (at .load .ensures) (c .before .before .write-table .ensures)
 
 pub normalise-spec : {M : Type 1} → statement M
 normalise-spec =
@@ -44,7 +53,8 @@ normalise-spec =
     enum-known-answer
     enum-known-answer-2
     returns
-    write-normal-requires
+    load-requires
+    write-table-requires
     returns-2
     same-length
     returns-3)

@@ -1,31 +1,28 @@
--- `encoding::table_state` meets its contract.
+-- `normal_form::table_state` meets its contract.
+use mathlib.Core.Path.{_∙_}
+use denote.Ref.{now}
+use Rattle.normal_form.proofs.Written.{mark-byte, state-is}
 use borrow.Author.Needs.{needs}
 use Rattle.normal_form.proofs.table_state.Statement.{statement}
 use Rattle.normal_form.proofs.table_state.Tie as tie
 
-mul-wide : tie.Need-mul-wide
-mul-wide c = search needs
+offset-requires : tie.Need-offset-requires
+offset-requires c κs = search needs
 
-element-copy-out-wide : tie.Need-element-copy-out-wide
-element-copy-out-wide c = search needs
+add-offset : tie.Need-add-offset
+add-offset c = search needs
 
-wide-requires : tie.Need-wide-requires
-wide-requires c κs = search needs
+offset-requires-2 : tie.Need-offset-requires-2
+offset-requires-2 c κs = search needs
 
-add-wide : tie.Need-add-wide
-add-wide c = search needs
+mark-requires : tie.Need-mark-requires
+mark-requires c κs = search needs
 
-mul-wide-2 : tie.Need-mul-wide-2
-mul-wide-2 c = search needs
-
-element-copy-out-wide-2 : tie.Need-element-copy-out-wide-2
-element-copy-out-wide-2 c = search needs
-
-wide-requires-2 : tie.Need-wide-requires-2
-wide-requires-2 c κs = search needs
-
-element-copy-out-new : tie.Need-element-copy-out-new
-element-copy-out-new c = search needs
+cast-mark : tie.Need-cast-mark
+cast-mark c = let start = c .before .before .before in
+    let small = mark-byte (now (start .args .table)) (start .pre .0) (start .args .p) (start .pre .1) in
+    let mark = c .mark .ensures .0 in
+    search needs
 
 first-index-requires : tie.Need-first-index-requires
 first-index-requires c κs = search needs
@@ -34,20 +31,20 @@ new-requires : tie.Need-new-requires
 new-requires c κs = search needs
 
 returns : tie.Need-returns
-returns c = cc
+returns c = let start = c .before .before .before .before .before in
+    c .new .ensures
+    ∙ rw (c .before .first-index .ensures, c .before .before .mark .ensures .0, c .before .before .before .offset2 .ensures .0, c .before .before .before .before .offset .ensures .0)
+    (state-is (now (start .args .table)) (start .pre .0) (start .args .p) (start .pre .1))
 
 pub table-state-spec : {M : Type 1} → statement M
 table-state-spec =
     tie.close
     (tie.spec
-    mul-wide
-    element-copy-out-wide
-    wide-requires
-    add-wide
-    mul-wide-2
-    element-copy-out-wide-2
-    wide-requires-2
-    element-copy-out-new
+    offset-requires
+    add-offset
+    offset-requires-2
+    mark-requires
+    cast-mark
     first-index-requires
     new-requires
     returns)

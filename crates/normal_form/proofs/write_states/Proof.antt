@@ -1,29 +1,33 @@
--- `encoding::write_states` meets its contract: the loop has written the records below p.
-use Rattle.normal_form.proofs.Bytes.{states-none, states-step}
-use Rattle.encoding.specs.Loaded.{tableStates}
-use lib.Seq.{sets}
-use lib.ListN.{length}
-use mathlib.Core.Path.{_≡_, _∙_, refl}
+-- `normal_form::write_states` meets its contract: the loop has written the records below p.
 use Prim.Native.Nat.{_-_, _≤_}
+use mathlib.Core.Path.{_≡_, refl, _∙_}
 use native.Mathlib.Omega.{arith}
+use denote.Ref.{now}
+use lib.ListN.{length}
+use lib.Seq.{sets}
+use Rattle.transitions.specs.Table.{tableLts}
+use Rattle.normal_form.specs.Normal.{statesBytes}
+use Rattle.normal_form.proofs.Written.{states-none, states-step, counts-bounds}
 use borrow.Author.Needs.{needs}
 use Rattle.normal_form.proofs.write_states.Statement.{statement}
 use Rattle.normal_form.proofs.write_states.Tie as tie
 
 abbrev Inv-loop : tie.InvT-loop
-Inv-loop out₀ h marks offsets n p₀ out p = (p ≤ h .states) × (length out ≡ length out₀) × (out ≡ sets out₀ 6 (tableStates marks offsets p))
+Inv-loop out₀ h table n p₀ out p = (p ≤ n) × (length out ≡ length out₀) × (out ≡ sets out₀ 6 (statesBytes (tableLts table) p))
 
 abbrev μ-loop : tie.MeasureT-loop
-μ-loop out₀ h marks offsets n p₀ out p = h .states - p
+μ-loop out₀ h table n p₀ out p = n - p
 
 loop-holds : tie.Need-loop-holds Inv-loop μ-loop
-loop-holds c = (search needs, refl, states-none _ _ _)
+loop-holds c = (search needs, refl, states-none _ _)
 
 table-state-requires : tie.Need-table-state-requires Inv-loop μ-loop
 table-state-requires c κs = search needs
 
 state-at-requires : tie.Need-state-at-requires Inv-loop μ-loop
-state-at-requires c κs = search needs
+state-at-requires c κs = let start = c .before .before .before .before .before in
+    let b = counts-bounds (now (start .args .table)) (start .pre .0) (start .pre .1) in
+    (b, search needs)
 
 put-requires : tie.Need-put-requires Inv-loop μ-loop
 put-requires c κs = search needs
@@ -38,7 +42,7 @@ loop-again : tie.Need-loop-again Inv-loop μ-loop
 loop-again c = let v = c .before .before .before .before .before .before .before .loop .inv in (
   search needs,
   c .before .before .put .kept .1 .0 ∙ v .1,
-  states-step _ _ (c .before .before .before .before .before .before .before .loop .p) _ _ _ (v .2) (c .before .before .before .before .before .table-state .ensures) (c .before .before .put .ensures ∙ rw (c .before .before .before .state-at .ensures)),
+  states-step _ (c .before .before .before .before .before .before .before .loop .p) _ _ _ (v .2) (c .before .before .before .before .before .table-state .ensures) (c .before .before .put .ensures ∙ rw (c .before .before .before .state-at .ensures)),
 )
 
 same-length : tie.Need-same-length Inv-loop μ-loop

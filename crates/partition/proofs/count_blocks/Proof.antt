@@ -9,9 +9,9 @@ use denote.Ref.{now}
 use borrow.Author.Tests.{eq-eqb, ne-eqb}
 use Rattle.lts.specs.Bounded.{sumBelow, countBelow, lowest}
 use Rattle.relation.specs.Matrix.{relationOf}
-use Rattle.relation.proofs.Bounded.{sum-none, sum-more, sum-done}
+use Rattle.lts.proofs.Below.{sum-none, sum-more, sum-done}
 use Rattle.partition.proofs.Laws.{row-lowest-test}
-use Rattle.splitting.proofs.Rows.{row-words}
+use Rattle.relation.proofs.Rows.{row-words}
 use borrow.Author.Needs.{needs}
 use Rattle.partition.proofs.count_blocks.Statement.{statement}
 use Rattle.partition.proofs.count_blocks.Tie as tie
@@ -26,8 +26,8 @@ Inv-loop blocks n w total₀ p₀ total p = (p ≤ n) × (total ≤ p) × (total
 abbrev μ-loop : tie.MeasureT-loop
 μ-loop blocks n w total₀ p₀ total p = n - p
 
-add-w : tie.Need-add-w Inv-loop μ-loop
-add-w c = search needs
+row-words-requires : tie.Need-row-words-requires Inv-loop μ-loop
+row-words-requires c κs = search needs
 
 loop-holds : tie.Need-loop-holds Inv-loop μ-loop
 loop-holds c = (search needs, search needs, sum-none _)
@@ -37,18 +37,16 @@ row-at-requires c κs = search needs
 
 lowest-state-requires : tie.Need-lowest-state-requires Inv-loop μ-loop
 lowest-state-requires c κs =
-    let start = c .before .before .before .before in
-    (row-words (start .args .n) (now (start .args .blocks)) (c .row-at .ensures) (c .before .loop-test .taken) (start .pre .1), search needs)
+    let start = c .before .before .before .before .before in
+    (row-words (start .args .n) (now (start .args .blocks)) (c .before .before .before .row-words .ensures) (c .row-at .ensures) (c .before .loop-test .taken) (start .pre .1), search needs)
 
 -- the test at p
 test : (c : tie.After-lowest-state Inv-loop μ-loop)
-    → eqb (c .lowest-state .result) (c .before .before .before .loop .p)
-    ≡ representing (c .before .before .before .before .before .args .n) (now (c .before .before .before .before .before .args .blocks)) (c .before .before .before .loop .p)
+    → eqb (c .lowest-state .result) (c .before .before .before .loop .p) ≡ representing (c .before .before .before .before .before .before .args .n) (now (c .before .before .before .before .before .before .args .blocks)) (c .before .before .before .loop .p)
 test c =
-    let at = c .before .before .before in
-    let a = at .before .before .args in
-    ap (λ (x : ℕ). eqb x (at .loop .p)) (c .lowest-state .ensures)
-    ∙ row-lowest-test (a .n) (now (a .blocks)) (at .loop .p) (c .before .row-at .ensures) (c .before .before .loop-test .taken)
+    let p = c .before .before .before .loop .p in
+    let a = c .before .before .before .before .before .before .args in
+    ap (λ (x : ℕ). eqb x p) (c .lowest-state .ensures) ∙ row-lowest-test (a .n) (now (a .blocks)) p (c .before .before .before .before .row-words .ensures) (c .before .row-at .ensures) (c .before .before .loop-test .taken)
 
 add-total : tie.Need-add-total Inv-loop μ-loop
 add-total c = search needs
@@ -88,7 +86,7 @@ count-blocks-spec =
     (tie.spec
     Inv-loop
     μ-loop
-    add-w
+    row-words-requires
     loop-holds
     row-at-requires
     lowest-state-requires

@@ -6,8 +6,9 @@ use native.Mathlib.Omega.{arith}
 use lib.ListN.{length, getD, length-append}
 use denote.Ref.{now}
 use Rattle.lts.specs.Bounded.{passing}
-use Rattle.relation.specs.Matrix.{inRow}
-use Rattle.partition.proofs.Passing.{passing-take, passing-place, next-place}
+use Rattle.rows.specs.Rows.{inRow}
+use Rattle.lts.proofs.Lists.{passing-more, passing-place}
+use Rattle.rows.proofs.Rows.{next-place}
 use borrow.Author.Needs.{needs}
 use Rattle.partition.proofs.member_at.Statement.{statement}
 use Rattle.partition.proofs.member_at.Tie as tie
@@ -52,7 +53,7 @@ loop-again c =
     let x = at .loop .x in
     let i = at .loop .i in
     let inv = at .loop .inv in
-    let count : length (passing (x + 1) f) ≡ i + 1 = ap length (passing-take f x (inv .2)) ∙ length-append (passing x f) (x ∷ []) ∙ ap (λ (m : ℕ). m + 1) (inv .3) in
+    let count : length (passing (x + 1) f) ≡ i + 1 = ap length (passing-more f x (inv .2)) ∙ length-append (passing x f) (x ∷ []) ∙ ap (λ (m : ℕ). m + 1) (inv .3) in
     let more : i + 1 < length (passing (a .k * 64) f) = omega (arith, start .pre .2, c .before .loop-test .taken) in
     let next = next-place f (a .k * 64) (x + 1) (c .next-state2 .result) (i + 1) (c .next-state2 .ensures) count more in
     (search needs, next .0, next .1, next .2)
@@ -64,7 +65,7 @@ returns c =
     let f = inRow (now (a .row)) in
     let inv = at .loop .inv in
     let end : at .loop .i ≡ a .j = omega (arith, inv .0, c .loop-test .left) in
-    sym (passing-place (a .k * 64) f (at .loop .x) (inv .1) (inv .2)) ∙ ap (λ (i : ℕ). getD (passing (a .k * 64) f) i 0) (inv .3 ∙ end)
+    sym (passing-place f (a .k * 64) (at .loop .x) (inv .1) (inv .2)) ∙ ap (λ (i : ℕ). getD (passing (a .k * 64) f) i 0) (inv .3 ∙ end)
 
 pub member-at-spec : {M : Type 1} → statement M
 member-at-spec =

@@ -5,14 +5,14 @@ use native.Mathlib.Omega.{arith}
 use lib.ListN.{length, getD, List·getD-eq-default}
 use denote.Ref.{now}
 use Rattle.lts.specs.Bounded.{passing}
-use Rattle.relation.specs.Matrix.{inRow, rowWords}
-use Rattle.partition.proofs.Passing.{passing-early, passing-more}
+use Rattle.rows.specs.Rows.{inRow}
+use Rattle.lts.proofs.Lists.{passing-early, passing-longer}
 use borrow.Author.Needs.{needs}
 use Rattle.partition.proofs.next_block.Statement.{statement}
 use Rattle.partition.proofs.next_block.Tie as tie
 
-add-w : tie.Need-add-w
-add-w c = search needs
+row-words-requires : tie.Need-row-words-requires
+row-words-requires c κs = search needs
 
 mul-wide : tie.Need-mul-wide
 mul-wide c = search needs
@@ -27,45 +27,45 @@ rem-member-at : tie.Need-rem-member-at
 rem-member-at c = search needs
 
 -- a number below c stands in the list, and in that of the row's words
-module _ (start : tie.Start) (j : ℕ) (low : j < start .args .c) where
+module _ (c : tie.After-row-words) (j : ℕ) (low : j < c .before .before .args .c) where
+  abbrev start : tie.Start
+  start = c .before .before
+
   abbrev n : ℕ
   n = start .args .n
 
   abbrev words : ℕ
-  words = rowWords n * 64
+  words = c .row-words .result * 64
 
   room : n ≤ words
-  room = omega arith
+  room = omega (arith, c .row-words .ensures)
 
   listed : j < length (passing n (inRow (now (start .args .pending))))
   listed = omega (arith, low, start .pre .2)
 
   within : j < length (passing words (inRow (now (start .args .pending))))
-  within = omega (arith, listed, passing-more n words (inRow (now (start .args .pending))) room)
+  within = omega (arith, listed, passing-longer n words (inRow (now (start .args .pending))) room)
 
   same : getD (passing words (inRow (now (start .args .pending)))) j 0 ≡ getD (passing n (inRow (now (start .args .pending)))) j 0
   same = passing-early n words (inRow (now (start .args .pending))) j room listed
 
-position : (c : tie.After-wide) → c .wide .result % c .before .before .before .before .args .c < c .before .before .before .before .args .c
-position c = mod-lt (c .wide .result) (c .before .before .before .before .pre .1)
-
 member-at-requires : tie.Need-member-at-requires
-member-at-requires c κs = (search needs, search needs, within (c .before .before .before .before .before) _ (position (c .before)))
+member-at-requires c κs = (search needs, search needs, within (c .before .before .before .before) _ (mod-lt _ (c .before .before .before .before .before .before .pre .1)))
 
 returns : tie.Need-returns
 returns c =
-    let start = c .before .before .before .before .before .before in
-    c .member-at .ensures ∙ same start _ (position (c .before .before))
+    let start = c .before .before .before .before .before .before .before in
+    c .member-at .ensures ∙ same (c .before .before .before .before .before) _ (mod-lt _ (start .pre .1))
     ∙ ap (λ (x : ℕ). getD (passing (start .args .n) (inRow (now (start .args .pending)))) (x % start .args .c) 0) (c .before .before .wide .ensures)
 
 member-at-requires-2 : tie.Need-member-at-requires-2
-member-at-requires-2 c κs = let start = c .before .before .before in (search needs, search needs, within start 0 (start .pre .1))
+member-at-requires-2 c κs = (search needs, search needs, within (c .before .before) 0 (c .before .before .before .before .pre .1))
 
 returns-2 : tie.Need-returns-2
 returns-2 c =
-    let start = c .before .before .before .before in
+    let start = c .before .before .before .before .before in
     let a = start .args in
-    c .member-at2 .ensures ∙ same start 0 (start .pre .1)
+    c .member-at2 .ensures ∙ same (c .before .before .before) 0 (start .pre .1)
     ∙ sym (ap (λ (x : ℕ). getD (passing (a .n) (inRow (now (a .pending)))) (x % a .c) 0) (List·getD-eq-default (now (a .schedule)) 0 (c .before .before .if1 .left))
     ∙ ap (λ (x : ℕ). getD (passing (a .n) (inRow (now (a .pending)))) x 0) (zero-mod (a .c)))
 
@@ -73,7 +73,7 @@ pub next-block-spec : {M : Type 1} → statement M
 next-block-spec =
     tie.close
     (tie.spec
-    add-w
+    row-words-requires
     mul-wide
     shared-slice-read-wide
     wide-requires

@@ -10,15 +10,15 @@ use borrow.Author.Tests.{eqb-true, eqb-false, eq-eqb, ne-eqb, lt-ltb, le-ltb}
 use denote.Ref.{now}
 use Rattle.lts.specs.Bounded.{anyBelow, lowest}
 use Rattle.lts.specs.System.{Set, Rel}
-use Rattle.relation.specs.Matrix.{inRow, rowOf, rowWords, relationOf, Matrix}
-use Rattle.relation.proofs.Bounded.{clash, either, bool-iff, lt-or-ge, lowest-lt, lowest-at}
-use Rattle.relation.proofs.Rows.{rowOf-cong, row-ext, inRow-written, inRow-rest, length-written}
+use Rattle.rows.specs.Rows.{inRow, rowOf, rowWords}
+use Rattle.relation.specs.Matrix.{relationOf, Matrix}
+use Rattle.lts.proofs.Below.{clash, either, bool-iff, lt-or-ge, lowest-lt, lowest-at, lowest-agree}
+use Rattle.rows.proofs.Rows.{rowOf-cong, row-ext, inRow-written, inRow-rest, length-written}
 use Rattle.relation.proofs.Matrices.{inRow-drop}
 use Rattle.relation.proofs.Checks.{rows-differ, row-lowest}
 use Rattle.splitting.specs.Split.{Equivalence}
-use Rattle.splitting.proofs.Rows.{row-words, zipped-row}
+use Rattle.relation.proofs.Rows.{row-words, zipped-row}
 use Rattle.partition.specs.Pending.{pendingIn}
-use Rattle.partition.proofs.Passing.{lowest-agree}
 use borrow.Author.Needs.{needs}
 use Rattle.partition.proofs.update_block.Statement.{statement}
 use Rattle.partition.proofs.update_block.Tie as tie
@@ -69,7 +69,7 @@ module _ (n p low : ℕ) (K W P : Rel) (classes : Equivalence n P) (hp : p < n) 
 -- the row of p goes out of the words of `d`, and `low` comes in if its rows differ
 module _ (n p low : ℕ) (K W : Rel) (grid : List ℕ) (ok : Matrix n grid) (classes : Equivalence n (relationOf n grid)) (hp : p < n) (low-is : low ≡ lowest n (relationOf n grid p))
     (small : n ≤ 256) (d row mid : List ℕ) (long : length d ≡ 4) (row-is : row ≡ drop (p * rowWords n) grid)
-    (minus : mid ≡ rowOf (rowWords n) (λ q. inRow d q && not (inRow row q)) ++ drop (rowWords n) d) where
+    {w : ℕ} (width : w ≡ rowWords n) (minus : mid ≡ rowOf w (λ q. inRow d q && not (inRow row q)) ++ drop w d) where
   abbrev P : Rel
   P = relationOf n grid
 
@@ -77,23 +77,23 @@ module _ (n p low : ℕ) (K W : Rel) (grid : List ℕ) (ok : Matrix n grid) (cla
   New x = cond (ltb x n && P p x) (pendingIn n K W P x) (inRow d x)
 
   mid-long : length mid ≡ 4
-  mid-long = ap length minus ∙ length-written (rowWords n) _ d (omega (arith, small, long)) ∙ long
+  mid-long = ap length minus ∙ length-written w _ d (omega (arith, width, small, long)) ∙ long
 
   outside : (x : ℕ) → n ≤ x → inRow mid x ≡ inRow d x
   outside x h =
       ap (λ (l : List ℕ). inRow l x) minus
       ∙ ⊎-elim
-      (λ (l : x < rowWords n * 64).
-      inRow-written (rowWords n) (λ q. inRow d q && not (inRow row q)) (drop (rowWords n) d) x l
-      ∙ ap (λ (b : Bool). inRow d x && not b) (ap (λ (l : List ℕ). inRow l x) row-is ∙ inRow-drop (rowWords n) grid p x ∙ ok .clear p x hp h l) ∙ and-true (inRow d x))
-      (λ (l : rowWords n * 64 ≤ x). inRow-rest (rowWords n) (λ q. inRow d q && not (inRow row q)) d x l (omega (arith, small, long)))
-      (lt-or-ge x (rowWords n * 64))
+      (λ (l : x < w * 64).
+      inRow-written w (λ q. inRow d q && not (inRow row q)) (drop w d) x l
+      ∙ ap (λ (b : Bool). inRow d x && not b) (ap (λ (l : List ℕ). inRow l x) row-is ∙ inRow-drop (rowWords n) grid p x ∙ ok .clear p x hp h (omega (arith, l, width))) ∙ and-true (inRow d x))
+      (λ (l : w * 64 ≤ x). inRow-rest w (λ q. inRow d q && not (inRow row q)) d x l (omega (arith, width, small, long)))
+      (lt-or-ge x (w * 64))
 
   right : (x : ℕ) → (differs n K W low && eqb x low) || inRow mid x ≡ New x
   right x =
       ⊎-elim
       (λ (h : x < n).
-      ap (λ (b : Bool). (differs n K W low && eqb x low) || b) (zipped-row n p grid (λ a b. a && not b) d row-is minus x h)
+      ap (λ (b : Bool). (differs n K W low && eqb x low) || b) (zipped-row n p grid (λ a b. a && not b) d width row-is minus x h)
       ∙ block-updated n p low K W P classes hp low-is (inRow d) x h ∙ sym (ap (λ (b : Bool). cond (b && P p x) (pendingIn n K W P x) (inRow d x)) (lt-ltb x n h)))
       (λ (h : n ≤ x).
       ap₂ (λ (a b : Bool). (differs n K W low && a) || b) (ne-eqb x low (λ e. omega (arith, e, h, low-below n p low K W P classes hp low-is))) (outside x h)
@@ -112,7 +112,7 @@ module _ (n p low : ℕ) (K W : Rel) (grid : List ℕ) (ok : Matrix n grid) (cla
 -- what is known after the lowest state is found
 module _ (c : tie.After-lowest-state) where
   abbrev start : tie.Start
-  start = c .before .before .before .before .before .before
+  start = c .before .before .before .before .before .before .before
 
   abbrev n : ℕ
   n = start .args .n
@@ -131,27 +131,27 @@ module _ (c : tie.After-lowest-state) where
 
   lowest-is : c .lowest-state .result ≡ lowest n (P′ p)
   lowest-is =
-      c .lowest-state .ensures ∙ ap (λ (l : List ℕ). lowest (rowWords n * 64) (inRow l)) (c .before .row-at .ensures)
-      ∙ row-lowest n (now (start .args .blocks)) p p (start .pre .5) (start .pre .5) (start .pre .4 .loop p (start .pre .5))
+      c .lowest-state .ensures
+      ∙ row-lowest n (now (start .args .blocks)) p p (c .before .before .row-words .ensures) (c .before .row-at .ensures) (start .pre .5) (start .pre .5) (start .pre .4 .loop p (start .pre .5))
 
   below : c .lowest-state .result < n
   below = low-below n p _ K W P′ (start .pre .4) (start .pre .5) lowest-is
 
-add-w : tie.Need-add-w
-add-w c = search needs
+row-words-requires : tie.Need-row-words-requires
+row-words-requires c κs = search needs
 
 row-at-requires : tie.Need-row-at-requires
 row-at-requires c κs = search needs
 
 lowest-state-requires : tie.Need-lowest-state-requires
 lowest-state-requires c κs =
-    let start = c .before .before .before .before .before in
-    (row-words (start .args .n) (now (start .args .blocks)) (c .row-at .ensures) (start .pre .5) (start .pre .3), search needs)
+    let start = c .before .before .before .before .before .before in
+    (row-words (start .args .n) (now (start .args .blocks)) (c .before .row-words .ensures) (c .row-at .ensures) (start .pre .5) (start .pre .3), search needs)
 
 row-minus-requires : tie.Need-row-minus-requires
 row-minus-requires c κs =
-    let start = c .before .before .before .before .before .before .before in
-    (search needs, row-words (start .args .n) (now (start .args .blocks)) (c .before .before .row-at .ensures) (start .pre .5) (start .pre .3))
+    let start = c .before .before .before .before .before .before .before .before in
+    (search needs, row-words (start .args .n) (now (start .args .blocks)) (c .before .before .before .row-words .ensures) (c .before .before .row-at .ensures) (start .pre .5) (start .pre .3))
 
 row-at-requires-2 : tie.Need-row-at-requires-2
 row-at-requires-2 c κs = (search needs, search needs, below (c .before .before .before .before))
@@ -161,9 +161,9 @@ row-at-requires-3 c κs = (search needs, search needs, below (c .before .before 
 
 row-differs-requires : tie.Need-row-differs-requires
 row-differs-requires c κs =
-    let start = c .before .before .before .before .before .before .before .before .before .before .before .before in (
-      row-words (start .args .n) (now (start .args .viewed)) (c .before .row-at2 .ensures) (below (c .before .before .before .before .before .before)) (start .pre .2),
-      row-words (start .args .n) (now (start .args .related)) (c .row-at3 .ensures) (below (c .before .before .before .before .before .before)) (start .pre .1),
+    let start = c .before .before .before .before .before .before .before .before .before .before .before .before .before in (
+      row-words (start .args .n) (now (start .args .viewed)) (c .before .before .before .before .before .before .before .before .row-words .ensures) (c .before .row-at2 .ensures) (below (c .before .before .before .before .before .before)) (start .pre .2),
+      row-words (start .args .n) (now (start .args .related)) (c .before .before .before .before .before .before .before .before .row-words .ensures) (c .row-at3 .ensures) (below (c .before .before .before .before .before .before)) (start .pre .1),
     )
 
 -- what the two rows' test says of the relations
@@ -173,13 +173,14 @@ differing c =
     let a = start d .args in
     let low = d .lowest-state .result in
     c .row-differs .ensures
+    ∙ ap (λ (k : ℕ). anyBelow (k * 64) (λ q. xor (inRow (now (c .before .before .row-at2 .result)) q) (inRow (now (c .before .row-at3 .result)) q))) (c .before .before .before .before .before .before .before .before .before .row-words .ensures)
     ∙ ap₂ (λ (a b : List ℕ). anyBelow (rowWords (n d) * 64) (λ q. xor (inRow a q) (inRow b q))) (c .before .before .row-at2 .ensures) (c .before .row-at3 .ensures)
     ∙ rows-differ (n d) (now (a .viewed)) (now (a .related)) low low (start d .pre .2) (start d .pre .1) (below d) (below d)
 
 insert-requires : tie.Need-insert-requires
 insert-requires c κs =
-    let start = c .before .before .before .before .before .before .before .before .before .before .before .before .before .before .before in
-    omega (arith, below (c .before .before .before .before .before .before .before .before .before), start .pre .0, start .pre .6, ap length (c .before .before .before .before .before .before .before .row-minus .ensures) ∙ length-written (rowWords (start .args .n)) _ (now (start .args .pending)) (omega (arith, start .pre .0, start .pre .6)))
+    let start = c .before .before .before .before .before .before .before .before .before .before .before .before .before .before .before .before in
+    omega (arith, below (c .before .before .before .before .before .before .before .before .before), start .pre .0, start .pre .6, ap length (c .before .before .before .before .before .before .before .row-minus .ensures) ∙ length-written (c .before .before .before .before .before .before .before .before .before .before .before .row-words .result) _ (now (start .args .pending)) (omega (arith, c .before .before .before .before .before .before .before .before .before .before .before .row-words .ensures, start .pre .0, start .pre .6)))
 
 same-length : tie.Need-same-length
 same-length c = search needs
@@ -189,7 +190,7 @@ returns c =
     let d = c .before .before .before .before .before .before .before .before .before .before .before .before in
     let s = start d in
     c .before .before .insert .ensures
-    ∙ put-in (n d) (p d) _ (K d) (W d) (now (s .args .blocks)) (s .pre .3) (s .pre .4) (s .pre .5) (lowest-is d) (s .pre .0) (now (s .args .pending)) _ _ (s .pre .6) (d .before .row-at .ensures)
+    ∙ put-in (n d) (p d) _ (K d) (W d) (now (s .args .blocks)) (s .pre .3) (s .pre .4) (s .pre .5) (lowest-is d) (s .pre .0) (now (s .args .pending)) _ _ (s .pre .6) (d .before .row-at .ensures) (c .before .before .before .before .before .before .before .before .before .before .before .before .before .before .row-words .ensures)
     (c .before .before .before .before .before .before .before .before .before .before .row-minus .ensures) (sym (differing (c .before .before .before .before .before)) ∙ c .before .before .before .before .if1 .taken)
 
 same-length-2 : tie.Need-same-length-2
@@ -199,14 +200,14 @@ returns-2 : tie.Need-returns-2
 returns-2 c =
     let d = c .before .before .before .before .before .before .before .before in
     let s = start d in
-    left-out (n d) (p d) _ (K d) (W d) (now (s .args .blocks)) (s .pre .3) (s .pre .4) (s .pre .5) (lowest-is d) (s .pre .0) (now (s .args .pending)) _ _ (s .pre .6) (d .before .row-at .ensures)
+    left-out (n d) (p d) _ (K d) (W d) (now (s .args .blocks)) (s .pre .3) (s .pre .4) (s .pre .5) (lowest-is d) (s .pre .0) (now (s .args .pending)) _ _ (s .pre .6) (d .before .row-at .ensures) (c .before .before .before .before .before .before .before .before .before .before .row-words .ensures)
     (c .before .before .before .before .before .before .row-minus .ensures) (sym (differing (c .before)) ∙ c .if1 .left) (λ j. c .before .before .before .before .slice-known2 .given j .fits)
 
 pub update-block-spec : {M : Type 1} → statement M
 update-block-spec =
     tie.close
     (tie.spec
-    add-w
+    row-words-requires
     row-at-requires
     lowest-state-requires
     row-minus-requires

@@ -9,12 +9,12 @@ use lib.ListN.{length, drop, getD, replicate}
 use borrow.Author.Tests.{lt-ltb, le-ltb}
 use denote.Ref.{now}
 use Rattle.lts.specs.System.{Set, Rel}
-use Rattle.relation.specs.Matrix.{inRow, rowOf, rowWords, statesBelow, relationOf, Next}
-use Rattle.relation.proofs.Bounded.{either, length-listBelow, lt-or-ge}
-use Rattle.relation.proofs.Rows.{rowOf-cong, row-ext, inRow-of, inRow-written, length-written}
-use Rattle.relation.proofs.Matrices.{states-in, states-out}
+use Rattle.rows.specs.Rows.{inRow, rowOf, rowWords, statesBelow, Next}
+use Rattle.relation.specs.Matrix.{relationOf}
+use Rattle.lts.proofs.Below.{either, length-listBelow, lt-or-ge}
+use Rattle.rows.proofs.Rows.{rowOf-cong, row-ext, inRow-of, inRow-written, length-written, states-in, states-out}
 use Rattle.splitting.specs.Split.{Equivalence}
-use Rattle.splitting.proofs.Rows.{row-words, zipped-row}
+use Rattle.relation.proofs.Rows.{row-words, zipped-row}
 use Rattle.splitting.proofs.Sweep.{Swept, sweep-first, sweep-next, sweep-end}
 use Rattle.partition.specs.Pending.{pendingIn}
 use borrow.Author.Needs.{needs}
@@ -48,16 +48,16 @@ module _ (n : ℕ) (New : Set) (small : n ≤ 256) where
       at : (y : ℕ) → y < n → inRow left y ≡ touched y
       at y h = ap (λ (l : List ℕ). inRow l y) copied ∙ inRow-written 4 touched (drop 4 (replicate {A = ℕ} 4 0)) y (omega (arith, small, h))
 
-  update-next : (grid : List ℕ) → Equivalence n (relationOf n grid) → {pending pending′ left left′ row : List ℕ} {p p′ : ℕ} → p < n
+  update-next : (grid : List ℕ) → Equivalence n (relationOf n grid) → {pending pending′ left left′ row : List ℕ} {p p′ w : ℕ} → w ≡ rowWords n → p < n
       → pending′ ≡ rowOf 4 (λ x. cond (ltb x n && relationOf n grid p x) (New x) (inRow pending x)) → row ≡ drop (p * rowWords n) grid
-      → left′ ≡ rowOf (rowWords n) (λ q. inRow left q && not (inRow row q)) ++ drop (rowWords n) left → Next (inRow left′) 256 (p + 1) p′
+      → left′ ≡ rowOf w (λ q. inRow left q && not (inRow row q)) ++ drop w left → Next (inRow left′) 256 (p + 1) p′
       → Updated n New pending left p → Updated n New pending′ left′ p′
-  update-next grid classes {pending} {pending′} {left} {left′} {p = p} hp done row-is minus next u = record {
+  update-next grid classes {pending} {pending′} {left} {left′} {p = p} {w = w} width hp done row-is minus next u = record {
     long = ap length done ∙ length-listBelow 4 _;
-    left-long = ap length minus ∙ length-written (rowWords n) _ left (omega (arith, small, u .left-long)) ∙ u .left-long;
+    left-long = ap length minus ∙ length-written w _ left (omega (arith, width, small, u .left-long)) ∙ u .left-long;
     words = done ∙ rowOf-cong 4 _ _ (λ q h. sym (at q h));
     clear = λ q l h. at q h ∙ ap (λ (b : Bool). cond (b && P p q) (New q) (inRow pending q)) (le-ltb q n l) ∙ u .clear q l h;
-    swept = sweep-next n P (Right New pending) (Right New pending′) (inRow left) (inRow left′) (classes .loop p hp) (zipped-row n p grid (λ a b. a && not b) left row-is minus)
+    swept = sweep-next n P (Right New pending) (Right New pending′) (inRow left) (inRow left′) (classes .loop p hp) (zipped-row n p grid (λ a b. a && not b) left width row-is minus)
         (λ y h old. inside y h ∙ ⊎-elim (λ (e : P p y ≡ true). ap (λ (b : Bool). cond b (New y) (inRow pending y)) e) (λ (e : P p y ≡ false). ap (λ (b : Bool). cond b (New y) (inRow pending y)) e ∙ old) (either (P p y)))
         (λ y h e. inside y h ∙ ap (λ (b : Bool). cond b (New y) (inRow pending y)) e) (u .swept) next;
   }
@@ -86,8 +86,8 @@ Inv-loop related viewed blocks n touched pending₀ w left₀ p₀ pending left 
 abbrev μ-loop : tie.MeasureT-loop
 μ-loop related viewed blocks n touched pending₀ w left₀ p₀ pending left p = n - p
 
-add-w : tie.Need-add-w Inv-loop μ-loop
-add-w c = search needs
+row-words-requires : tie.Need-row-words-requires Inv-loop μ-loop
+row-words-requires c κs = search needs
 
 slice-aggregate-row-copy : tie.Need-slice-aggregate-row-copy Inv-loop μ-loop
 slice-aggregate-row-copy c = search needs
@@ -103,10 +103,10 @@ next-state-requires c κs = search needs
 
 loop-holds : tie.Need-loop-holds Inv-loop μ-loop
 loop-holds c =
-    let start = c .before .before .before .before .before .before .before .before .before .before in
+    let start = c .before .before .before .before .before .before .before .before .before .before .before in
     let a = start .args in
     let pre = start .pre .0 in
-    update-first (a .n) (test (a .n) (now (a .related)) (now (a .viewed)) (now (a .blocks))) (pre .0) (inRow (now (a .touched))) (pre .5) (λ j. c .before .before .before .before .before .before .slice-known .given j .fits) (pre .6) (start .pre .1)
+    update-first (a .n) (test (a .n) (now (a .related)) (now (a .viewed)) (now (a .blocks))) (pre .0) (inRow (now (a .touched))) (pre .5) (λ j. c .before .before .before .before .before .before .before .slice-known .given j .fits) (pre .6) (start .pre .1)
     (c .before .before .before .row-copy .ensures) (c .next-state .ensures)
 
 update-block-requires : tie.Need-update-block-requires Inv-loop μ-loop
@@ -120,8 +120,8 @@ row-at-requires c κs = search needs
 
 row-minus-requires : tie.Need-row-minus-requires Inv-loop μ-loop
 row-minus-requires c κs =
-    let start = c .before .before .before .before .before .before .before .before .before .before .before .before .before .before .before .before .before .before in
-    (search needs, row-words (start .args .n) (now (start .args .blocks)) (c .row-at .ensures) (c .before .before .before .before .before .before .loop-test .taken) (start .pre .0 .3))
+    let start = c .before .before .before .before .before .before .before .before .before .before .before .before .before .before .before .before .before .before .before in
+    (search needs, row-words (start .args .n) (now (start .args .blocks)) (c .before .before .before .before .before .before .before .before .before .before .before .before .before .before .row-words .ensures) (c .row-at .ensures) (c .before .before .before .before .before .before .loop-test .taken) (start .pre .0 .3))
 
 slice-aggregate-next-state-2 : tie.Need-slice-aggregate-next-state-2 Inv-loop μ-loop
 slice-aggregate-next-state-2 c = search needs
@@ -137,9 +137,9 @@ loop-less c = search needs
 
 loop-again : tie.Need-loop-again Inv-loop μ-loop
 loop-again c =
-    let start = c .before .before .before .before .before .before .before .before .before .before .before .before .before .before .before .before .before .before .before .before .before .before in
+    let start = c .before .before .before .before .before .before .before .before .before .before .before .before .before .before .before .before .before .before .before .before .before .before .before in
     let a = start .args in
-    update-next (a .n) (test (a .n) (now (a .related)) (now (a .viewed)) (now (a .blocks))) (start .pre .0 .0) (now (a .blocks)) (start .pre .0 .4) (c .before .before .before .before .before .before .before .before .before .before .loop-test .taken)
+    update-next (a .n) (test (a .n) (now (a .related)) (now (a .viewed)) (now (a .blocks))) (start .pre .0 .0) (now (a .blocks)) (start .pre .0 .4) (c .before .before .before .before .before .before .before .before .before .before .before .before .before .before .before .before .before .before .row-words .ensures) (c .before .before .before .before .before .before .before .before .before .before .loop-test .taken)
     (c .before .before .before .before .before .before .before .before .update-block .ensures) (c .before .before .before .before .row-at .ensures) (c .before .before .before .row-minus .ensures) (c .next-state2 .ensures) (c .before .before .before .before .before .before .before .before .before .before .before .loop .inv)
 
 same-length : tie.Need-same-length Inv-loop μ-loop
@@ -147,7 +147,7 @@ same-length c = search needs
 
 returns : tie.Need-returns Inv-loop μ-loop
 returns c =
-    let start = c .before .before .before .before .before .before .before .before .before .before .before .before in
+    let start = c .before .before .before .before .before .before .before .before .before .before .before .before .before in
     let a = start .args in
     update-end (a .n) (test (a .n) (now (a .related)) (now (a .viewed)) (now (a .blocks))) (start .pre .0 .0) (c .loop-test .left) (c .before .loop .inv)
 
@@ -157,7 +157,7 @@ update-pending-spec =
     (tie.spec
     Inv-loop
     μ-loop
-    add-w
+    row-words-requires
     slice-aggregate-row-copy
     row-copy-requires
     slice-aggregate-next-state

@@ -23,8 +23,8 @@ block-of-requires : tie.Need-block-of-requires
 block-of-requires c κs =
     (c .before .before .before .before .before .before .pre .0 .0, c .before .before .before .before .before .before .pre .0 .1, c .before .before .before .before .before .before .pre .0 .3)
 
-set-views-requires : tie.Need-set-views-requires
-set-views-requires c κs =
+set-rows-requires : tie.Need-set-rows-requires
+set-rows-requires c κs =
     let a = c .before .before .before .before .before .before .before .before .before .before .args in
     let pre = c .before .before .before .before .before .before .before .before .before .before .pre .0 in
     ((pre .0, formed-of _ _ (c .before .before .before .before .before .before .before .before .before .before .pre .1)), λ q l h. states-clear (a .n) (block (relationOf (a .n) (now (a .related))) (a .p)) (c .before .before .before .block-of .ensures) q l h)
@@ -46,7 +46,7 @@ returns-2 c =
     let a = c .before .before .before .before .before .before .before .before .before .before .before .before .before .before .before .before .before .before .args in
     let pre = c .before .before .before .before .before .before .before .before .before .before .before .before .before .before .before .before .before .before .pre .0 in
     let K = relationOf (a .n) (now (a .related)) in (
-      blocks-next (a .n) (a .p) K (pre .2) (now (a .written)) _ _ (pre .0) (pre .3) (pre .4) (c .before .before .before .before .before .before .before .before .before .before .before .block-of .ensures) (c .before .before .row-union .ensures) (now (a .blocks)) _ (c .before .before .before .before .before .before .before .before .before .before .before .before .before .before .before .before .before .before .pre .1) (c .before .before .before .before .before .before .before .set-views .ensures),
+      blocks-next (a .n) (a .p) K (pre .2) (now (a .written)) _ _ (pre .0) (pre .3) (pre .4) (c .before .before .before .before .before .before .before .before .before .before .before .block-of .ensures) (c .before .before .row-union .ensures) (now (a .blocks)) _ (c .before .before .before .before .before .before .before .before .before .before .before .before .before .before .before .before .before .before .pre .1) (c .before .before .before .before .before .before .before .set-rows .ensures),
       grown (a .n) (a .p) K (pre .2) (now (a .written)) _ _ (pre .0) (pre .3) (pre .4) (c .before .before .before .before .before .before .before .before .before .before .before .block-of .ensures) (c .before .before .row-union .ensures),
     )
 
@@ -58,7 +58,7 @@ write-block-spec =
     same-length
     returns
     block-of-requires
-    set-views-requires
+    set-rows-requires
     slice-aggregate-row-union
     row-union-requires
     same-length-2

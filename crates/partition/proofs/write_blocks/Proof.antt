@@ -1,15 +1,14 @@
 use mathlib.Core.Path.{_≡_, sym, ap, _∙_}
 use mathlib.Core.Bool.{true}
 use mathlib.Core.Logic.{⊎-elim}
-use Prim.Native.Nat.{ℕ, _+_, _<_, _≤_, _-_}
+use Prim.Native.Nat.{ℕ, _<_, _≤_, _-_}
 use native.Mathlib.Nat.{eq-or-lt-of-le, not-suc-le-zero}
 use native.Mathlib.Omega.{arith}
 use lib.ListN.{length}
 use denote.Ref.{now}
-use Rattle.lts.specs.Refinement.{block}
-use Rattle.relation.specs.Matrix.{inRow, relationOf, matrixOf}
-use Rattle.relation.proofs.Bounded.{lt-or-ge}
-use Rattle.relation.proofs.Rows.{inRow-zeros}
+use Rattle.rows.specs.Rows.{inRow}
+use Rattle.relation.specs.Matrix.{relationOf, matrixOf}
+use Rattle.rows.proofs.Rows.{inRow-zeros}
 use Rattle.relation.proofs.Matrices.{matrix-relation, length-matrixOf}
 use Rattle.partition.specs.Pending.{blocksAt}
 use Rattle.partition.proofs.Classes.{blocks-none, blocks-all}

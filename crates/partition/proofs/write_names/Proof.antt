@@ -1,16 +1,16 @@
 use mathlib.Core.Path.{_≡_, refl, ap, _∙_}
 use mathlib.Core.Bool.{Bool}
 use mathlib.Core.List.{List, _++_}
-use Prim.Native.Nat.{_*_, ℕ, _≤_, _<_, _-_}
+use Prim.Native.Nat.{ℕ, _≤_, _<_, _-_}
 use native.Mathlib.Omega.{arith}
 use lib.ListN.{length, drop, set, length-set}
 use denote.Ref.{now}
 use Rattle.lts.specs.Bounded.{listBelow, lowest}
-use Rattle.relation.specs.Matrix.{inRow, rowWords, relationOf}
-use Rattle.relation.proofs.Bounded.{fill-more, lowest-lt}
+use Rattle.relation.specs.Matrix.{relationOf}
+use Rattle.lts.proofs.Below.{fill-more, lowest-lt}
 use Rattle.relation.proofs.Checks.{row-lowest}
 use Rattle.partition.proofs.Laws.{fill-done}
-use Rattle.splitting.proofs.Rows.{row-words}
+use Rattle.relation.proofs.Rows.{row-words}
 use borrow.Author.Needs.{needs}
 use Rattle.partition.proofs.write_names.Statement.{statement}
 use Rattle.partition.proofs.write_names.Tie as tie
@@ -21,8 +21,8 @@ Inv-loop blocks n names₀ w p₀ names p = (p ≤ n) × (length names ≡ lengt
 abbrev μ-loop : tie.MeasureT-loop
 μ-loop blocks n names₀ w p₀ names p = n - p
 
-add-w : tie.Need-add-w Inv-loop μ-loop
-add-w c = search needs
+row-words-requires : tie.Need-row-words-requires Inv-loop μ-loop
+row-words-requires c κs = search needs
 
 loop-holds : tie.Need-loop-holds Inv-loop μ-loop
 unfolding listBelow
@@ -33,30 +33,29 @@ row-at-requires c κs = search needs
 
 lowest-state-requires : tie.Need-lowest-state-requires Inv-loop μ-loop
 lowest-state-requires c κs =
-    let start = c .before .before .before .before .before in
-    (row-words (start .args .n) (now (start .args .blocks)) (c .row-at .ensures) (c .before .loop-test .taken) (start .pre .1), search needs)
+    let start = c .before .before .before .before .before .before in
+    (row-words (start .args .n) (now (start .args .blocks)) (c .before .before .before .row-words .ensures) (c .row-at .ensures) (c .before .loop-test .taken) (start .pre .1), search needs)
 
 -- the name of p
 module _ (c : tie.After-lowest-state Inv-loop μ-loop) where
   abbrev row : ℕ → Bool
-  row = relationOf (c .before .before .before .before .before .before .args .n) (now (c .before .before .before .before .before .before .args .blocks)) (c .before .before .before .loop .p)
+  row = relationOf (c .before .before .before .before .before .before .before .args .n) (now (c .before .before .before .before .before .before .before .args .blocks)) (c .before .before .before .loop .p)
 
   abbrev size : ℕ
-  size = c .before .before .before .before .before .before .args .n
+  size = c .before .before .before .before .before .before .before .args .n
 
   name : c .lowest-state .result ≡ lowest size row
   name =
-      let at = c .before .before .before in
-      let start = at .before .before .before in
+      let p = c .before .before .before .loop .p in
+      let start = c .before .before .before .before .before .before .before in
       let l = c .before .before .loop-test .taken in
-      c .lowest-state .ensures ∙ ap (λ (l : List ℕ). lowest (rowWords size * 64) (inRow l)) (c .before .row-at .ensures)
-      ∙ row-lowest size (now (start .args .blocks)) (at .loop .p) (at .loop .p) l l (start .pre .2 .loop (at .loop .p) l)
+      c .lowest-state .ensures ∙ row-lowest size (now (start .args .blocks)) p p (c .before .before .before .before .row-words .ensures) (c .before .row-at .ensures) l l (start .pre .2 .loop p l)
 
   name-below : lowest size row < size
   name-below =
-      let at = c .before .before .before in
+      let p = c .before .before .before .loop .p in
       let l = c .before .before .loop-test .taken in
-      lowest-lt size row (at .loop .p) l (at .before .before .before .pre .2 .loop (at .loop .p) l)
+      lowest-lt size row p l (c .before .before .before .before .before .before .before .pre .2 .loop p l)
 
 cast-names : tie.Need-cast-names Inv-loop μ-loop
 cast-names c = omega (arith, name c, name-below c)
@@ -86,7 +85,7 @@ same-length c = search needs
 
 returns : tie.Need-returns Inv-loop μ-loop
 returns c =
-    let start = c .before .before .before .before in
+    let start = c .before .before .before .before .before in
     let end : c .before .loop .p ≡ start .args .n = omega arith in
     let f : ℕ → ℕ = λ i. lowest (start .args .n) (relationOf (start .args .n) (now (start .args .blocks)) i) in
     fill-done f (now (start .args .names)) _ (c .before .loop .p) (start .args .n) (c .before .loop .inv .2) end (start .pre .3)
@@ -97,7 +96,7 @@ write-names-spec =
     (tie.spec
     Inv-loop
     μ-loop
-    add-w
+    row-words-requires
     loop-holds
     row-at-requires
     lowest-state-requires

@@ -1,8 +1,9 @@
+-- `predecessors::action_set` meets its contract: by `part-copied`. Assumes nothing.
 use mathlib.Core.Path.{_≡_, refl, _∙_}
 use lib.ListN.{length, replicate}
 use denote.Ref.{now}
-use Rattle.relation.proofs.Rows.{part-length}
-use Rattle.predecessors.proofs.Laws.{row-whole, part-copied}
+use Rattle.rows.proofs.Rows.{part-length, row-whole}
+use Rattle.predecessors.proofs.Laws.{part-copied}
 use borrow.Author.Needs.{needs}
 use Rattle.predecessors.proofs.action_set.Statement.{statement}
 use Rattle.predecessors.proofs.action_set.Tie as tie

@@ -8,7 +8,7 @@ use lib.Dec.{eqb}
 use lib.ListN.{length}
 use denote.Ref.{now}
 use Rattle.lts.specs.System.{Set}
-use Rattle.relation.proofs.Bounded.{length-listBelow}
+use Rattle.lts.proofs.Below.{length-listBelow}
 use Rattle.predecessors.specs.Sources.{Fits, Linked, IntoStates}
 use Rattle.predecessors.proofs.Chains.{head-low, Place, chain-place, added-all, Walk, walk-begin, walk-add, walk-end}
 use borrow.Author.Needs.{needs}

@@ -6,8 +6,8 @@ use Prim.Native.Nat.{ℕ, _≤_, _<_, _-_}
 use native.Mathlib.Omega.{arith}
 use lib.ListN.{length}
 use denote.Ref.{now}
-use Rattle.relation.specs.Matrix.{inRow, rowOf, statesBelow}
-use Rattle.relation.proofs.Bounded.{length-listBelow}
+use Rattle.rows.specs.Rows.{inRow, rowOf, statesBelow}
+use Rattle.lts.proofs.Below.{length-listBelow}
 use Rattle.predecessors.specs.Sources.{Chains}
 use Rattle.predecessors.proofs.Chains.{added, missing, members-begin, members-more, members-end}
 use borrow.Author.Needs.{needs}

@@ -8,8 +8,8 @@ use native.Mathlib.Omega.{arith}
 use lib.ListN.{length, getD}
 use denote.Ref.{now}
 use Rattle.lts.specs.System.{Set}
-use Rattle.relation.specs.Matrix.{inRow}
-use Rattle.relation.proofs.Bounded.{length-listBelow}
+use Rattle.rows.specs.Rows.{inRow}
+use Rattle.lts.proofs.Below.{length-listBelow}
 use Rattle.predecessors.specs.Sources.{Chains}
 use Rattle.predecessors.proofs.Chains.{head-low, Place, chain-place, missing, Walk, walk-begin, walk-add, walk-skip, walk-end}
 use borrow.Author.Needs.{needs}

@@ -7,8 +7,8 @@ use native.Mathlib.Omega.{arith}
 use lib.Dec.{eqb}
 use lib.ListN.{length}
 use denote.Ref.{now}
-use Rattle.relation.specs.Matrix.{inRow, rowOf, statesBelow}
-use Rattle.relation.proofs.Bounded.{length-listBelow}
+use Rattle.rows.specs.Rows.{inRow, rowOf, statesBelow}
+use Rattle.lts.proofs.Below.{length-listBelow}
 use Rattle.predecessors.specs.Sources.{Fits, Linked, IntoStates}
 use Rattle.predecessors.proofs.Chains.{added, added-all, members-begin, members-more, members-end}
 use borrow.Author.Needs.{needs}

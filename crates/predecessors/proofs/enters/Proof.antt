@@ -6,7 +6,7 @@ use native.Mathlib.Omega.{arith}
 use lib.ListN.{length}
 use denote.Ref.{now}
 use Rattle.lts.specs.System.{Set}
-use Rattle.relation.specs.Matrix.{inRow}
+use Rattle.rows.specs.Rows.{inRow}
 use Rattle.predecessors.specs.Sources.{Fits, Linked, OfKeys}
 use Rattle.predecessors.proofs.Chains.{head-low, Place, chain-place, Search, search-begin, search-found, search-more, search-end}
 use borrow.Author.Needs.{needs}

@@ -1,8 +1,8 @@
 -- `refinement::add_outside` meets its contract. Assumes nothing.
-use mathlib.Core.Path.{_≡_, sym, _∙_}
+use mathlib.Core.Path.{sym, _∙_}
 use mathlib.Core.Logic.{inl, inr}
 use denote.Ref.{now}
-use Rattle.predecessors.proofs.Laws.{row-whole}
+use Rattle.rows.proofs.Rows.{row-whole}
 use borrow.Author.Needs.{needs}
 use Rattle.refinement.proofs.add_outside.Statement.{statement}
 use Rattle.refinement.proofs.add_outside.Tie as tie

@@ -6,9 +6,10 @@ use Prim.Native.Nat.{_*_}
 use native.Mathlib.Omega.{arith}
 use lib.ListN.{drop}
 use denote.Ref.{now}
-use Rattle.relation.specs.Matrix.{inRow, relationOf}
-use Rattle.relation.proofs.Bounded.{any-no}
-use Rattle.relation.proofs.Rows.{inRow-zeros, inRow-written}
+use Rattle.rows.specs.Rows.{inRow}
+use Rattle.relation.specs.Matrix.{relationOf}
+use Rattle.lts.proofs.Below.{any-no}
+use Rattle.rows.proofs.Rows.{inRow-zeros, inRow-written}
 use Rattle.refinement.proofs.Actions.{any-off}
 use borrow.Author.Tests.{not-true}
 use borrow.Author.Needs.{needs}

@@ -3,7 +3,8 @@ use mathlib.Core.Path.{sym, _∙_}
 use Prim.Native.Nat.{_*_}
 use native.Mathlib.Omega.{arith}
 use denote.Ref.{now}
-use Rattle.relation.specs.Matrix.{inRow, relationOf}
+use Rattle.rows.specs.Rows.{inRow}
+use Rattle.relation.specs.Matrix.{relationOf}
 use Rattle.relation.proofs.Matrices.{matrix-relation}
 use Rattle.refinement.proofs.Actions.{any-off}
 use Rattle.refinement.proofs.Touched.{untouched-none, prune-idle, prune-untouched}

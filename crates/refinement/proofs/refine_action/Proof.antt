@@ -1,9 +1,10 @@
 use mathlib.Core.Path.{_≡_, sym, _∙_}
 use lib.ListN.{length}
 use denote.Ref.{now}
-use Rattle.relation.specs.Matrix.{inRow, relationOf}
+use Rattle.rows.specs.Rows.{inRow}
+use Rattle.relation.specs.Matrix.{relationOf}
 use Rattle.relation.proofs.Matrices.{formed-of, relation-of, matrix-relation}
-use Rattle.relation.proofs.Rows.{part-length}
+use Rattle.rows.proofs.Rows.{part-length}
 use Rattle.refinement.proofs.Actions.{blocks-split, related-refined, blocks-idle, related-idle}
 use Rattle.refinement.proofs.Touched.{pruned-free, untouched-none, untouched-then}
 use borrow.Author.Needs.{needs}

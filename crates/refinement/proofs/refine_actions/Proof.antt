@@ -3,7 +3,8 @@ use native.Mathlib.Omega.{arith}
 use mathlib.Core.Path.{_≡_, sym, ap, _∙_}
 use lib.ListN.{length}
 use denote.Ref.{now}
-use Rattle.relation.specs.Matrix.{inRow, relationOf, matrixOf}
+use Rattle.rows.specs.Rows.{inRow}
+use Rattle.relation.specs.Matrix.{relationOf, matrixOf}
 use Rattle.relation.proofs.Matrices.{formed-of, matrix-relation, length-matrixOf}
 use Rattle.splitting.specs.Split.{Parted}
 use Rattle.refinement.specs.Engine.{acted, actionsTo, Untouched}

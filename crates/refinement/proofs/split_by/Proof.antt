@@ -5,7 +5,8 @@ use Prim.Native.Nat.{ℕ, _*_, _<_}
 use native.Mathlib.Omega.{arith}
 use lib.ListN.{length}
 use denote.Ref.{now}
-use Rattle.relation.specs.Matrix.{inRow, relationOf}
+use Rattle.rows.specs.Rows.{inRow}
+use Rattle.relation.specs.Matrix.{relationOf}
 use Rattle.relation.proofs.Matrices.{relation-of, matrix-relation}
 use Rattle.splitting.proofs.Touched.{parted-split, parted-cong}
 use Rattle.refinement.proofs.Actions.{any-off}

@@ -5,7 +5,7 @@ use native.Mathlib.Omega.{arith}
 use lib.ListN.{length, length-replicate}
 use denote.Ref.{now}
 use Rattle.lts.proofs.Count.{count-most}
-use Rattle.relation.specs.Matrix.{inRow}
+use Rattle.rows.specs.Rows.{inRow}
 use Rattle.refinement.proofs.Removed.{from-zeros, removed-sets}
 use borrow.Author.Needs.{needs}
 use Rattle.refinement.proofs.write_removed.Statement.{statement}

@@ -6,7 +6,7 @@ use native.Mathlib.Omega.{arith}
 use lib.ListN.{length, drop, set, length-set, getD}
 use denote.Ref.{now}
 use Rattle.lts.specs.Bounded.{listBelow}
-use Rattle.relation.proofs.Bounded.{fill-more, fill-copied}
+use Rattle.lts.proofs.Below.{fill-more, fill-copied}
 use borrow.Author.Needs.{needs}
 use Rattle.relation.proofs.copy_matrix.Statement.{statement}
 use Rattle.relation.proofs.copy_matrix.Tie as tie

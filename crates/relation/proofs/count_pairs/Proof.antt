@@ -5,10 +5,11 @@ use native.Mathlib.Omega.{arith}
 use lib.Count.{ones-le}
 use lib.ListN.{length, getD}
 use denote.Ref.{now}
-use Rattle.relation.specs.Matrix.{bit}
+use Rattle.rows.specs.Rows.{bit}
 use Rattle.lts.specs.Bounded.{sumBelow, countBelow}
-use Rattle.relation.proofs.Counts.{ones-count, bits-pairs}
-use Rattle.relation.proofs.Bounded.{sum-none, sum-more, sum-done}
+use Rattle.rows.proofs.Counts.{ones-count}
+use Rattle.relation.proofs.Counts.{bits-pairs}
+use Rattle.lts.proofs.Below.{sum-none, sum-more, sum-done}
 use Rattle.relation.proofs.Matrices.{matrix-small}
 use borrow.Author.Needs.{needs}
 use Rattle.relation.proofs.count_pairs.Statement.{statement}

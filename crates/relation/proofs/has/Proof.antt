@@ -1,7 +1,8 @@
 -- `relation::has` meets its contract: the code is the definition. Assumes nothing.
 use borrow.Author.Needs.{needs}
 use mathlib.Core.Path.{refl}
-use Rattle.relation.specs.Matrix.{bit, inMatrix}
+use Rattle.rows.specs.Rows.{bit}
+use Rattle.relation.specs.Matrix.{inMatrix}
 use Rattle.relation.proofs.has.Statement.{statement}
 use Rattle.relation.proofs.has.Tie as tie
 

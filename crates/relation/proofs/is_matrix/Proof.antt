@@ -6,31 +6,28 @@ use native.Mathlib.Omega.{arith}
 use lib.ListN.{length}
 use borrow.Author.Count.{below-none, below-more}
 use borrow.Author.Tests.{not-true, not-false}
+use Rattle.rows.specs.Rows.{rowWords}
 use Rattle.relation.specs.Check.{clearAt}
 use Rattle.relation.proofs.Checks.{wrong-length, right-length}
-use Rattle.relation.proofs.Bounded.{all-yes, all-not}
-use Rattle.relation.proofs.Matrices.{matrix-small}
+use Rattle.lts.proofs.Below.{all-yes, all-not}
 use borrow.Author.Needs.{needs}
 use Rattle.relation.proofs.is_matrix.Statement.{statement}
 use Rattle.relation.proofs.is_matrix.Tie as tie
 
 abbrev Inv-loop : tie.InvT-loop
-Inv-loop grid n w p₀ p = (p ≤ n) × (length grid ≡ n * w) × ((t : ℕ) → t < p → clearAt n grid t ≡ true)
+Inv-loop grid n p₀ p = (p ≤ n) × (length grid ≡ n * rowWords n) × ((t : ℕ) → t < p → clearAt n grid t ≡ true)
 
 abbrev μ-loop : tie.MeasureT-loop
-μ-loop grid n w p₀ p = n - p
+μ-loop grid n p₀ p = n - p
 
-add-w : tie.Need-add-w Inv-loop μ-loop
-add-w c = search needs
-
-mul-if1 : tie.Need-mul-if1 Inv-loop μ-loop
-mul-if1 c = omega (arith, matrix-small (c .before .args .n) (c .before .pre))
+matrix-words-requires : tie.Need-matrix-words-requires Inv-loop μ-loop
+matrix-words-requires c κs = search needs
 
 returns : tie.Need-returns Inv-loop μ-loop
-returns c = wrong-length _ _ (c .if1 .taken)
+returns c = wrong-length _ _ (λ e. c .if1 .taken (e ∙ sym (c .before .matrix-words .ensures .0)))
 
 loop-holds : tie.Need-loop-holds Inv-loop μ-loop
-loop-holds c = (search needs, search needs, below-none _)
+loop-holds c = (search needs, c .if1 .left ∙ c .before .matrix-words .ensures .0, below-none _)
 
 row-formed-requires : tie.Need-row-formed-requires Inv-loop μ-loop
 row-formed-requires c κs = search needs
@@ -58,8 +55,7 @@ is-matrix-spec =
     (tie.spec
     Inv-loop
     μ-loop
-    add-w
-    mul-if1
+    matrix-words-requires
     returns
     loop-holds
     row-formed-requires

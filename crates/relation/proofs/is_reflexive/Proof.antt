@@ -3,35 +3,30 @@ use mathlib.Core.Path.{_≡_, sym, _∙_}
 use mathlib.Core.Bool.{true}
 use Prim.Native.Nat.{ℕ, _≤_, _<_, _-_}
 use native.Mathlib.Omega.{arith}
-use denote.Ref.{now}
 use borrow.Author.Count.{below-none, below-more}
 use borrow.Author.Tests.{not-true, not-false}
 use Rattle.relation.specs.Matrix.{relationOf}
 use Rattle.relation.specs.Check.{reflexiveBelow}
-use Rattle.relation.proofs.Bounded.{all-yes, all-not}
-use Rattle.relation.proofs.Matrices.{pair-word}
+use Rattle.lts.proofs.Below.{all-yes, all-not}
 use borrow.Author.Needs.{needs}
 use Rattle.relation.proofs.is_reflexive.Statement.{statement}
 use Rattle.relation.proofs.is_reflexive.Tie as tie
 
 abbrev Inv-loop : tie.InvT-loop
-Inv-loop grid n w p₀ p = (p ≤ n) × ((t : ℕ) → t < p → relationOf n grid t t ≡ true)
+Inv-loop grid n p₀ p = (p ≤ n) × ((t : ℕ) → t < p → relationOf n grid t t ≡ true)
 
 abbrev μ-loop : tie.MeasureT-loop
-μ-loop grid n w p₀ p = n - p
-
-add-w : tie.Need-add-w Inv-loop μ-loop
-add-w c = search needs
+μ-loop grid n p₀ p = n - p
 
 loop-holds : tie.Need-loop-holds Inv-loop μ-loop
 loop-holds c = (search needs, below-none _)
 
-has-requires : tie.Need-has-requires Inv-loop μ-loop
-has-requires c κs = pair-word _ (now (c .before .before .before .args .grid)) (c .loop-test .taken) (c .loop-test .taken) (c .before .before .before .pre .0 .long)
+relates-requires : tie.Need-relates-requires Inv-loop μ-loop
+relates-requires c κs = search needs
 
 returns : tie.Need-returns Inv-loop μ-loop
 unfolding reflexiveBelow
-returns c = all-not _ _ (c .before .before .before .loop .p) (c .before .before .loop-test .taken) (sym (c .before .has .ensures) ∙ not-true _ (c .if1 .taken))
+returns c = all-not _ _ (c .before .before .before .loop .p) (c .before .before .loop-test .taken) (sym (c .before .relates .ensures) ∙ not-true _ (c .if1 .taken))
 
 add-p : tie.Need-add-p Inv-loop μ-loop
 add-p c = search needs
@@ -40,7 +35,7 @@ loop-less : tie.Need-loop-less Inv-loop μ-loop
 loop-less c = search needs
 
 loop-again : tie.Need-loop-again Inv-loop μ-loop
-loop-again c = (search needs, below-more _ _ (c .before .before .before .loop .inv .1) (sym (c .before .has .ensures) ∙ not-false _ (c .if1 .left)))
+loop-again c = (search needs, below-more _ _ (c .before .before .before .loop .inv .1) (sym (c .before .relates .ensures) ∙ not-false _ (c .if1 .left)))
 
 returns-2 : tie.Need-returns-2 Inv-loop μ-loop
 unfolding reflexiveBelow
@@ -52,9 +47,8 @@ is-reflexive-spec =
     (tie.spec
     Inv-loop
     μ-loop
-    add-w
     loop-holds
-    has-requires
+    relates-requires
     returns
     add-p
     loop-less

@@ -9,7 +9,7 @@ use denote.Ref.{now}
 use borrow.Author.Tests.{not-true, not-false}
 use Rattle.relation.specs.Matrix.{relationOf}
 use Rattle.relation.specs.Check.{transitiveAt, transitiveBelow}
-use Rattle.relation.proofs.Bounded.{all-yes, all-not}
+use Rattle.lts.proofs.Below.{all-yes, all-not}
 use borrow.Author.Needs.{needs}
 use Rattle.relation.proofs.is_transitive.Statement.{statement}
 use Rattle.relation.proofs.is_transitive.Tie as tie

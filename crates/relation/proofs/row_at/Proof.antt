@@ -1,19 +1,21 @@
 -- `relation::row_at` meets its contract: a part from the row's first word on. Assumes nothing.
-use Prim.Native.Nat.{_≤_, _+_, _*_}
+use mathlib.Core.Path.{ap, _∙_}
+use Prim.Native.Nat.{ℕ, _≤_, _+_, _*_}
 use native.Mathlib.Omega.{arith}
-use lib.ListN.{length}
+use lib.ListN.{length, drop}
 use denote.Ref.{now}
-use Rattle.relation.specs.Matrix.{rowWords}
-use Rattle.relation.proofs.Matrices.{row-fits, tail-part}
+use Rattle.relation.proofs.Matrices.{row-fits}
+use Rattle.rows.proofs.Rows.{tail-part}
 use borrow.Author.Needs.{needs}
 use Rattle.relation.proofs.row_at.Statement.{statement}
 use Rattle.relation.proofs.row_at.Tie as tie
 
-room : (c : tie.Start) → c .args .p * rowWords (c .args .n) + rowWords (c .args .n) ≤ length (now (c .args .grid))
-room c = row-fits (c .args .n) (now (c .args .grid)) (c .pre .2) (c .pre .0)
+row-words-requires : tie.Need-row-words-requires
+row-words-requires c κs = search needs
 
-add-w : tie.Need-add-w
-add-w c = search needs
+-- row p lies within the matrix
+room : (c : tie.After-row-words) → let a = c .before .before .args in a .p * c .row-words .result + c .row-words .result ≤ length (now (a .grid))
+room c = let start = c .before .before in row-fits (start .args .n) (now (start .args .grid)) (c .row-words .ensures) (start .pre .2) (start .pre .0)
 
 mul-at : tie.Need-mul-at
 mul-at c = omega (arith, room c)
@@ -31,9 +33,11 @@ part-result-end : tie.Need-part-result-end
 part-result-end c = search needs
 
 returns : tie.Need-returns
-returns c = tail-part (c .before .args .p * rowWords (c .before .args .n)) (now (c .before .args .grid))
+returns c =
+    let a = c .before .before .before .args in
+    tail-part (a .p * c .before .row-words .result) (now (a .grid)) ∙ ap (λ (w : ℕ). drop (a .p * w) (now (a .grid))) (c .before .row-words .ensures)
 
 pub row-at-spec : {M : Type 1} → statement M
 row-at-spec =
     tie.close
-    (tie.spec add-w mul-at mul-result sub-result part-result-start part-result-end returns)
+    (tie.spec row-words-requires mul-at mul-result sub-result part-result-start part-result-end returns)

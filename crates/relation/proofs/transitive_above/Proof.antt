@@ -1,17 +1,17 @@
 -- `relation::transitive_above` meets its contract: a state that leaves `left` passes. Assumes nothing.
-use mathlib.Core.Path.{_≡_, refl, sym, _∙_, subst⁻¹}
+use mathlib.Core.Path.{_≡_, refl, sym, _∙_}
 use mathlib.Core.Bool.{true}
-use mathlib.Core.List.{List}
-use Prim.Native.Nat.{ℕ, _*_, _≤_, _<_, _-_}
+use Prim.Native.Nat.{_*_, _≤_, _<_, _-_}
 use native.Mathlib.Omega.{arith}
 use lib.ListN.{length}
 use denote.Ref.{now}
 use borrow.Author.Tests.{not-true, not-false}
-use Rattle.relation.specs.Matrix.{inRow, rowWords, relationOf}
+use Rattle.rows.specs.Rows.{inRow}
+use Rattle.relation.specs.Matrix.{relationOf}
 use Rattle.relation.specs.Check.{transitiveAt}
 use Rattle.relation.specs.Tested.{Left}
-use Rattle.relation.proofs.Bounded.{all-not, clash}
-use Rattle.relation.proofs.Matrices.{row-long}
+use Rattle.lts.proofs.Below.{all-not, clash}
+use Rattle.relation.proofs.Rows.{row-words}
 use Rattle.relation.proofs.Transitivity.{left-next, left-less}
 use borrow.Author.Needs.{needs}
 use Rattle.relation.proofs.transitive_above.Statement.{statement}
@@ -23,8 +23,8 @@ Inv-loop grid n p left₀ w q₀ left q = (q ≤ w * 64) × (p < q) × (q < n �
 abbrev μ-loop : tie.MeasureT-loop
 μ-loop grid n p left₀ w q₀ left q = w * 64 - q
 
-add-w : tie.Need-add-w Inv-loop μ-loop
-add-w c = search needs
+row-words-requires : tie.Need-row-words-requires Inv-loop μ-loop
+row-words-requires c κs = search needs
 
 add-next-state : tie.Need-add-next-state Inv-loop μ-loop
 add-next-state c = search needs
@@ -35,12 +35,12 @@ next-state-requires c κs = search needs
 loop-holds : tie.Need-loop-holds Inv-loop μ-loop
 loop-holds c =
     let next = c .next-state .ensures in
-    let start = c .before .before .before .before in
-    (next .below, omega (arith, next .above), left-next _ _ _ _ (start .pre .0 .3) _ _ next, refl, start .pre .0 .3)
+    let ok = c .before .before .before .before .before .pre .0 .3 in
+    (next .below, omega (arith, next .above), left-next _ _ _ _ ok _ _ _ (omega (arith, c .before .before .row-words .ensures)) next, refl, ok)
 
 transitive-pair-requires : tie.Need-transitive-pair-requires Inv-loop μ-loop
 transitive-pair-requires c κs =
-    let start = c .before .before .before .before .before .before in
+    let start = c .before .before .before .before .before .before .before in
     let here = c .before .loop .inv in
     (start .pre .0 .0, start .pre .0 .1, start .pre .0 .2, c .loop-test .taken, here .4 .members _ (c .loop-test .taken) (here .2 (c .loop-test .taken)))
 
@@ -59,11 +59,10 @@ row-at-requires c κs = search needs
 
 row-minus-requires : tie.Need-row-minus-requires Inv-loop μ-loop
 row-minus-requires c κs =
-    let here = c .before .before .before .before .before in
-    let start = here .before .before .before .before .before in (
-      here .loop .inv .4 .long,
-      subst⁻¹ (λ (l : List ℕ). rowWords (start .args .n) ≤ length l) (c .row-at .ensures)
-          (row-long (start .args .n) (now (start .args .grid)) (search needs) (start .pre .0 .0 .long)),
+    let start = c .before .before .before .before .before .before .before .before .before .before .before in
+    let width = c .before .before .before .before .before .before .before .before .row-words .ensures in (
+      omega (arith, width, c .before .before .before .before .before .loop .inv .4 .long),
+      row-words (start .args .n) (now (start .args .grid)) width (c .row-at .ensures) (c .before .before .before .before .loop-test .taken) (start .pre .0 .0),
     )
 
 add-next-state-2 : tie.Need-add-next-state-2 Inv-loop μ-loop
@@ -78,15 +77,14 @@ loop-less c = search needs
 loop-again : tie.Need-loop-again Inv-loop μ-loop
 loop-again c =
     let next = c .next-state2 .ensures in
-    let minus = c .before .before .before .before in
-    let test = minus .before .before .before in
-    let turn = test .before .before in
-    let here = turn .before .loop .inv in
-    let start = turn .before .before .before .before .before .before in
-    let q = turn .before .loop .q in
-    let less = left-less (start .args .n) (now (start .args .grid)) (start .args .p) q _ _ _ (here .4) (turn .loop-test .taken) (here .2 (turn .loop-test .taken))
-    (sym (test .before .transitive-pair .ensures) ∙ not-false _ (test .if1 .left)) (start .pre .1 q (here .1) (turn .loop-test .taken)) (minus .before .row-at .ensures) (minus .row-minus .ensures) in
-    (next .below, omega (arith, next .above), left-next _ _ _ _ less _ _ next, search needs, less)
+    let here = c .before .before .before .before .before .before .before .before .before .before .loop .inv in
+    let start = c .before .before .before .before .before .before .before .before .before .before .before .before .before .before .before .before in
+    let q = c .before .before .before .before .before .before .before .before .before .before .loop .q in
+    let low = c .before .before .before .before .before .before .before .before .before .loop-test .taken in
+    let width = c .before .before .before .before .before .before .before .before .before .before .before .before .before .row-words .ensures in
+    let less = left-less (start .args .n) (now (start .args .grid)) (start .args .p) q _ _ _ width (here .4) low (here .2 low)
+    (sym (c .before .before .before .before .before .before .before .before .transitive-pair .ensures) ∙ not-false _ (c .before .before .before .before .before .before .before .if1 .left)) (start .pre .1 q (here .1) low) (c .before .before .before .before .before .row-at .ensures) (c .before .before .before .before .row-minus .ensures) in
+    (next .below, omega (arith, next .above), left-next _ _ _ _ less _ _ _ (omega (arith, width)) next, search needs, less)
 
 same-length-2 : tie.Need-same-length-2 Inv-loop μ-loop
 same-length-2 c = search needs
@@ -100,7 +98,7 @@ transitive-above-spec =
     (tie.spec
     Inv-loop
     μ-loop
-    add-w
+    row-words-requires
     add-next-state
     next-state-requires
     loop-holds

@@ -5,9 +5,10 @@ use Prim.Native.Nat.{ℕ, _*_, _≤_, _<_, _-_}
 use native.Mathlib.Omega.{arith}
 use borrow.Author.Count.{below-none, below-more}
 use borrow.Author.Tests.{not-true, not-false}
-use Rattle.relation.specs.Matrix.{inRow, relationOf}
+use Rattle.rows.specs.Rows.{inRow}
+use Rattle.relation.specs.Matrix.{relationOf}
 use Rattle.relation.specs.Check.{transitivePair, transitiveAt}
-use Rattle.relation.proofs.Bounded.{all-yes, all-not}
+use Rattle.lts.proofs.Below.{all-yes, all-not}
 use Rattle.relation.proofs.Transitivity.{left-skip, left-next}
 use borrow.Author.Needs.{needs}
 use Rattle.relation.proofs.transitive_rest.Statement.{statement}
@@ -19,8 +20,8 @@ Inv-loop grid n p left w q₀ q = (q ≤ w * 64) × (q < n → inRow left q ≡ 
 abbrev μ-loop : tie.MeasureT-loop
 μ-loop grid n p left w q₀ q = w * 64 - q
 
-add-w : tie.Need-add-w Inv-loop μ-loop
-add-w c = search needs
+row-words-requires : tie.Need-row-words-requires Inv-loop μ-loop
+row-words-requires c κs = search needs
 
 next-state-requires : tie.Need-next-state-requires Inv-loop μ-loop
 next-state-requires c κs = search needs
@@ -28,15 +29,15 @@ next-state-requires c κs = search needs
 loop-holds : tie.Need-loop-holds Inv-loop μ-loop
 loop-holds c =
     let next = c .next-state .ensures in
-    let start = c .before .before .before in (
+    let ok = c .before .before .before .before .pre .3 in (
       next .below,
-      left-next _ _ _ _ (start .pre .3) _ _ next,
-      left-skip _ _ _ _ (start .pre .3) _ _ next (below-none _),
+      left-next _ _ _ _ ok _ _ _ (omega (arith, c .before .row-words .ensures)) next,
+      left-skip _ _ _ _ ok _ _ _ next (below-none _),
     )
 
 transitive-pair-requires : tie.Need-transitive-pair-requires Inv-loop μ-loop
 transitive-pair-requires c κs =
-    let start = c .before .before .before .before .before in
+    let start = c .before .before .before .before .before .before in
     (start .pre .0, start .pre .1, start .pre .2, c .loop-test .taken, start .pre .3 .members _ (c .loop-test .taken) (c .before .loop .inv .1 (c .loop-test .taken)))
 
 returns : tie.Need-returns Inv-loop μ-loop
@@ -56,11 +57,10 @@ loop-less c = search needs
 loop-again : tie.Need-loop-again Inv-loop μ-loop
 loop-again c =
     let next = c .next-state2 .ensures in
-    let here = c .before .before .before .before in
-    let ok = here .before .before .before .before .pre .3 in (
+    let ok = c .before .before .before .before .before .before .before .before .before .pre .3 in (
       next .below,
-      left-next _ _ _ _ ok _ _ next,
-      left-skip _ _ _ _ ok _ _ next (below-more _ _ (here .loop .inv .2) (λ _. sym (c .before .before .transitive-pair .ensures) ∙ not-false _ (c .before .if1 .left))),
+      left-next _ _ _ _ ok _ _ _ (omega (arith, c .before .before .before .before .before .before .row-words .ensures)) next,
+      left-skip _ _ _ _ ok _ _ _ next (below-more _ _ (c .before .before .before .before .loop .inv .2) (λ _. sym (c .before .before .transitive-pair .ensures) ∙ not-false _ (c .before .if1 .left))),
     )
 
 returns-2 : tie.Need-returns-2 Inv-loop μ-loop
@@ -73,7 +73,7 @@ transitive-rest-spec =
     (tie.spec
     Inv-loop
     μ-loop
-    add-w
+    row-words-requires
     next-state-requires
     loop-holds
     transitive-pair-requires

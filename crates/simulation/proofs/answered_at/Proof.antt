@@ -1,101 +1,104 @@
 -- `simulation::answered_at` meets its contract: the row of the source lies within the states that answer. Assumes nothing.
-use mathlib.Core.Path.{_∙_, subst⁻¹}
+use Prim.Native.Nat.{ℕ, _*_, _≤_, _<_}
+use mathlib.Core.Path.{_≡_, ap, _∙_, subst⁻¹}
 use mathlib.Core.List.{List}
-use Prim.Native.Nat.{ℕ, _≤_, _<_}
 use native.Mathlib.Omega.{arith}
-use lib.ListN.{length, getD}
+use lib.ListN.{length}
 use denote.Ref.{now}
-use Rattle.relation.specs.Matrix.{rowWords}
+use Rattle.lts.proofs.Below.{length-listBelow}
+use Rattle.rows.specs.Rows.{rowWords}
 use Rattle.relation.proofs.Matrices.{row-long}
-use Rattle.simulation.specs.Simulation.{answeredAt}
-use Rattle.simulation.proofs.Answers.{answers-included, set-fits}
+use Rattle.simulation.proofs.Answers.{answers-included}
 use borrow.Author.Needs.{needs}
 use Rattle.simulation.proofs.answered_at.Statement.{statement}
 use Rattle.simulation.proofs.answered_at.Tie as tie
 
+-- what a row of the claim asks: the claim's length, and at most 256 states
+rows : (c : tie.After-states) → let n = c .states .result in (length (now (c .before .before .args .claim)) ≡ n * rowWords n) × (n ≤ 256)
+rows c =
+    let start = c .before .before in
+    let states = c .states .ensures .0 in (
+      subst⁻¹ (λ (n : ℕ). length (now (start .args .claim)) ≡ n * rowWords n) states (start .pre .1 .long),
+      omega (arith, states, start .pre .0 .states),
+    )
+
 -- the states of transition i
-source : (c : tie.Start) → getD (now (c .args .sources)) (c .args .i) 0 < c .args .n
-source c = c .pre .0 .source (c .args .i) (c .pre .2)
+target : (c : tie.After-target) → c .target .result < c .before .states .result
+target c =
+    let start = c .before .before .before in
+    omega (arith, c .target .ensures .0, c .before .states .ensures .0, start .pre .0 .target (start .args .i) (start .pre .2))
 
-target : (c : tie.Start) → getD (now (c .args .targets)) (c .args .i) 0 < c .args .n
-target c = c .pre .0 .target (c .args .i) (c .pre .2)
+source : (c : tie.After-source) → c .source .result < c .before .before .before .before .before .before .before .states .result
+source c =
+    let start = c .before .before .before .before .before .before .before .before .before in
+    omega (arith, c .source .ensures .0, c .before .before .before .before .before .before .before .states .ensures .0, start .pre .0 .source (start .args .i) (start .pre .2))
 
-add-w : tie.Need-add-w
-add-w c = search needs
+states-requires : tie.Need-states-requires
+states-requires c κs = search needs
 
-mul-row-at : tie.Need-mul-row-at
-mul-row-at c = search needs
-
-element-copy-out-row-at : tie.Need-element-copy-out-row-at
-element-copy-out-row-at c = search needs
-
-cast-row-at : tie.Need-cast-row-at
-cast-row-at c = omega (arith, target (c .before .before), c .before .before .pre .0 .states)
+target-requires : tie.Need-target-requires
+target-requires c κs = search needs
 
 row-at-requires : tie.Need-row-at-requires
-row-at-requires c κs = (c .before .before .pre .1 .long, c .before .before .pre .0 .states, target (c .before .before))
+row-at-requires c κs = let r = rows (c .before) in (r .0, r .1, target c)
 
-element-copy-out-add-into : tie.Need-element-copy-out-add-into
-element-copy-out-add-into c = search needs
+action-requires : tie.Need-action-requires
+action-requires c κs = search needs
 
 slice-aggregate-add-into : tie.Need-slice-aggregate-add-into
 slice-aggregate-add-into c = search needs
 
 add-into-requires : tie.Need-add-into-requires
 add-into-requires c κs =
-    let start = c .before .before .before .before .before in (
-      start .pre .0,
-      subst⁻¹ (λ (l : List ℕ). rowWords (start .args .n) ≤ length l) (c .before .before .row-at .ensures) (row-long (start .args .n) (now (start .args .claim)) (target start) (start .pre .1 .long)),
-      omega (arith, start .pre .0 .states),
-    )
+    let start = c .before .before .before .before .before .before in
+    let at = c .before .before .before .before in
+    let n = at .states .result in
+    let long = subst⁻¹ (λ (l : List ℕ). rowWords n ≤ length l) (c .before .before .row-at .ensures) (row-long n (now (start .args .claim)) (target (c .before .before .before)) (rows at .0)) in
+    (start .pre .0, omega (arith, long, at .states .ensures .0), omega (arith, start .pre .0 .states))
 
-mul-row-at-2 : tie.Need-mul-row-at-2
-mul-row-at-2 c = search needs
-
-element-copy-out-row-at-2 : tie.Need-element-copy-out-row-at-2
-element-copy-out-row-at-2 c = search needs
-
-cast-row-at-2 : tie.Need-cast-row-at-2
-cast-row-at-2 c = omega (arith, source (c .before .before .before .before .before .before .before .before), c .before .before .before .before .before .before .before .before .pre .0 .states)
+source-requires : tie.Need-source-requires
+source-requires c κs = search needs
 
 row-at-requires-2 : tie.Need-row-at-requires-2
-row-at-requires-2 c κs = (c .before .before .before .before .before .before .before .before .pre .1 .long, c .before .before .before .before .before .before .before .before .pre .0 .states, source (c .before .before .before .before .before .before .before .before))
+row-at-requires-2 c κs = let r = rows (c .before .before .before .before .before .before .before) in (r .0, r .1, source c)
 
 slice-aggregate-row-within : tie.Need-slice-aggregate-row-within
 slice-aggregate-row-within c = search needs
 
+row-words-requires : tie.Need-row-words-requires
+row-words-requires c κs = omega (arith, rows (c .before .before .before .before .before .before .before .before .before) .1)
+
 row-within-requires : tie.Need-row-within-requires
 row-within-requires c κs =
-    let start = c .before .before .before .before .before .before .before .before .before .before in (
-      subst⁻¹ (λ (l : List ℕ). rowWords (start .args .n) ≤ length l) (c .before .row-at2 .ensures) (row-long (start .args .n) (now (start .args .claim)) (source start) (start .pre .1 .long)),
-      subst⁻¹ (λ (l : List ℕ). rowWords (start .args .n) ≤ length l) (c .before .before .before .before .add-into .ensures) (set-fits (start .args .n) _ (start .pre .0 .states)),
-    )
+    let start = c .before .before .before .before .before .before .before .before .before .before .before .before in
+    let at = c .before .before .before .before .before .before .before .before .before .before in
+    let n = at .states .result in
+    let words = c .row-words .ensures in
+    let long = subst⁻¹ (λ (l : List ℕ). rowWords n ≤ length l) (c .before .before .row-at2 .ensures) (row-long n (now (start .args .claim)) (source (c .before .before .before)) (rows at .0)) in
+    (omega (arith, words, long), omega (arith, words, ap length (c .before .before .before .before .before .add-into .ensures) ∙ length-listBelow 4 _, rows at .1))
 
 returns : tie.Need-returns
-unfolding answeredAt
 returns c =
-    let start = c .before .before .before .before .before .before .before .before .before .before .before in
+    let start = c .before .before .before .before .before .before .before .before .before .before .before .before .before in
     let a = start .args in
     c .row-within .ensures
-    ∙ answers-included (now (a .sources)) (now (a .actions)) (now (a .targets)) (a .n) (a .m) (a .k) (start .pre .0) (now (a .claim)) (start .pre .1) _ _ _ (source start) _ _ _
-    (c .before .before .row-at2 .ensures) (c .before .before .before .before .before .before .before .before .row-at .ensures) (c .before .before .before .before .before .add-into .ensures)
+    ∙ answers-included (now (a .table)) (start .pre .0) (now (a .claim)) (start .pre .1) (a .i) (start .pre .2)
+    (c .before .before .before .before .before .before .before .before .before .before .before .states .ensures .0) (c .before .row-words .ensures) (c .before .before .before .before .source .ensures .0) (c .before .before .before .before .before .before .before .before .action .ensures .0) (c .before .before .before .before .before .before .before .before .before .before .target .ensures .0)
+    (c .before .before .before .row-at2 .ensures) (c .before .before .before .before .before .before .before .before .before .row-at .ensures) (c .before .before .before .before .before .before .add-into .ensures)
 
 pub answered-at-spec : {M : Type 1} → statement M
 answered-at-spec =
     tie.close
     (tie.spec
-    add-w
-    mul-row-at
-    element-copy-out-row-at
-    cast-row-at
+    states-requires
+    target-requires
     row-at-requires
-    element-copy-out-add-into
+    action-requires
     slice-aggregate-add-into
     add-into-requires
-    mul-row-at-2
-    element-copy-out-row-at-2
-    cast-row-at-2
+    source-requires
     row-at-requires-2
     slice-aggregate-row-within
+    row-words-requires
     row-within-requires
     returns)

@@ -1,22 +1,52 @@
--- `simulation::write_preorder` meets its contract: the table's marks are the encoding's. Assumes nothing.
-use mathlib.Core.Path.{_∙_}
-use Rattle.simulation.proofs.CallLaws.{termination-table}
+-- `simulation::write_preorder` meets its contract: the relation of the table's terminating states. Assumes nothing.
+use Prim.Native.Nat.{ℕ, _*_, _≤_, _<_}
+use mathlib.Core.Path.{_≡_, sym, ap, _∙_}
+use mathlib.Core.List.{List}
+use native.Mathlib.Omega.{arith}
+use denote.Ref.{now}
+use Rattle.lts.specs.Bounded.{_⇒_}
+use Rattle.rows.specs.Rows.{inRow, rowWords}
+use Rattle.relation.specs.Matrix.{matrixOf}
+use Rattle.relation.proofs.Starts.{termination-written}
+use Rattle.transitions.specs.Table.{statesOf, tableLts}
+use Rattle.transitions.proofs.Lookups.{terminating-clear}
 use borrow.Author.Needs.{needs}
 use Rattle.simulation.proofs.write_preorder.Statement.{statement}
 use Rattle.simulation.proofs.write_preorder.Tie as tie
+use Rattle.simulation.proofs.write_preorder.Reads as reads
+use Rattle.simulation.proofs.write_preorder.Lts as lts
+use Rattle.relation.proofs.write_termination.Reads as write-termination-reads
+use Rattle.transitions.proofs.states.Reads as states-reads
+use Rattle.transitions.proofs.terminating.Reads as terminating-reads
 
-load-requires : tie.Need-load-requires
-load-requires c κs = search needs
+states-requires : tie.Need-states-requires
+states-requires c κs = search needs
+
+terminating-requires : tie.Need-terminating-requires
+terminating-requires c κs = search needs
 
 write-termination-requires : tie.Need-write-termination-requires
-write-termination-requires c κs = search needs
+write-termination-requires c κs =
+    let start = c .before .before .before .before .before in
+    let t = now (start .args .table) in
+    let states = c .before .before .before .states .ensures .0 in (
+      (omega (arith, states, start .pre .0 .states), start .pre .1 ∙ ap (λ (x : ℕ). x * rowWords x) (sym states)),
+      λ q l h. terminating-clear t (c .before .before .terminating .ensures) q (omega (arith, l, states)) h,
+    )
 
 same-length : tie.Need-same-length
 same-length c = search needs
 
 returns : tie.Need-returns
-returns c = c .before .before .write-termination .ensures ∙ termination-table _ _ _ _ (c .before .before .before .before .before .load .ensures .same)
+returns c =
+    let start = c .before .before .before .before .before .before .before .before in
+    let t = now (start .args .table) in
+    let ends = c .before .before .before .before .before .terminating in
+    c .before .before .write-termination .ensures
+    ∙ ap (λ (n : ℕ). matrixOf n (λ p q. inRow (ends .result) p ⇒ inRow (ends .result) q)) (c .before .before .before .before .before .before .states .ensures .0)
+    ∙ termination-written (statesOf t) (tableLts t) (start .pre .0 .states) (ends .ensures)
 
 pub write-preorder-spec : {M : Type 1} → statement M
 write-preorder-spec =
-    tie.close (tie.spec load-requires write-termination-requires same-length returns)
+    tie.close
+    (tie.spec states-requires terminating-requires write-termination-requires same-length returns)

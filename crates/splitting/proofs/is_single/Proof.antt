@@ -9,10 +9,11 @@ use lib.Dec.{eqb, leb}
 use lib.ListN.{drop}
 use borrow.Author.Tests.{eqb-true, leb-true}
 use denote.Ref.{now}
-use Rattle.relation.specs.Matrix.{inRow, rowWords, relationOf, Next}
-use Rattle.relation.proofs.Bounded.{lt-or-ge}
+use Rattle.rows.specs.Rows.{inRow, rowWords, Next}
+use Rattle.relation.specs.Matrix.{relationOf}
+use Rattle.lts.proofs.Below.{lt-or-ge}
 use Rattle.relation.proofs.Matrices.{inRow-drop}
-use Rattle.splitting.proofs.Rows.{row-words}
+use Rattle.relation.proofs.Rows.{row-words}
 use borrow.Author.Needs.{needs}
 use Rattle.splitting.proofs.is_single.Statement.{statement}
 use Rattle.splitting.proofs.is_single.Tie as tie
@@ -32,37 +33,37 @@ alone n g grid row bound x y is first next both h hh p =
     (λ (l : g ≤ h). ⊎-elim (λ (e : g ≡ h). sym e) (λ (l : g < h). absurd (true≢false (sym member ∙ next .none h (omega arith) (omega (arith, high, hh))))) (eq-or-lt-of-le l))
     (lt-or-ge h g)
 
-add-w : tie.Need-add-w
-add-w c = search needs
+row-words-requires : tie.Need-row-words-requires
+row-words-requires c κs = search needs
 
 row-at-requires : tie.Need-row-at-requires
 row-at-requires c κs = search needs
 
 next-state-requires : tie.Need-next-state-requires
 next-state-requires c κs =
-    let start = c .before .before in
+    let start = c .before .before .before in
     let n = start .args .n in
-    (row-words n (now (start .args .grid)) (c .row-at .ensures) (start .pre .2) (start .pre .1), omega (arith, start .pre .0), search needs)
+    (row-words n (now (start .args .grid)) (c .before .row-words .ensures) (c .row-at .ensures) (start .pre .2) (start .pre .1), omega (arith, c .before .row-words .ensures, start .pre .0), search needs)
 
 add-next-state : tie.Need-add-next-state
 add-next-state c = search needs
 
 next-state-requires-2 : tie.Need-next-state-requires-2
 next-state-requires-2 c κs =
-    let start = c .before .before .before in
+    let start = c .before .before .before .before in
     let n = start .args .n in
-    (row-words n (now (start .args .grid)) (c .before .row-at .ensures) (start .pre .2) (start .pre .1), omega (arith, start .pre .0), omega (arith, start .pre .2))
+    (row-words n (now (start .args .grid)) (c .before .before .row-words .ensures) (c .before .row-at .ensures) (start .pre .2) (start .pre .1), omega (arith, c .before .before .row-words .ensures, start .pre .0), omega (arith, c .before .before .row-words .ensures, start .pre .2))
 
 returns : tie.Need-returns
 returns c =
-    let start = c .before .before .before .before in
+    let start = c .before .before .before .before .before in
     alone (start .args .n) (start .args .g) (now (start .args .grid)) _ _ _ _ (c .before .before .row-at .ensures) (c .before .next-state .ensures) (c .next-state2 .ensures)
 
 pub is-single-spec : {M : Type 1} → statement M
 is-single-spec =
     tie.close
     (tie.spec
-    add-w
+    row-words-requires
     row-at-requires
     next-state-requires
     add-next-state

@@ -8,11 +8,12 @@ use lib.ListN.{length, drop, replicate}
 use denote.Ref.{now}
 use Rattle.lts.specs.Bounded.{anyBelow}
 use Rattle.lts.specs.System.{Set, Rel}
-use Rattle.relation.specs.Matrix.{inRow, rowOf, rowWords, relationOf, Next}
-use Rattle.relation.proofs.Bounded.{clash, either, bool-iff, and-fst, and-snd, any-yes, any-some}
-use Rattle.relation.proofs.Rows.{inRow-zeros, inRow-written, length-written}
+use Rattle.rows.specs.Rows.{inRow, rowOf, rowWords, Next}
+use Rattle.relation.specs.Matrix.{relationOf}
+use Rattle.lts.proofs.Below.{clash, either, bool-iff, and-fst, and-snd, any-yes, any-some}
+use Rattle.rows.proofs.Rows.{inRow-zeros, inRow-written, length-written}
 use Rattle.splitting.specs.Split.{Meets, Equivalence}
-use Rattle.splitting.proofs.Rows.{row-words, zipped-row}
+use Rattle.relation.proofs.Rows.{row-words, zipped-row}
 use Rattle.splitting.proofs.Sweep.{Swept, sweep-first, sweep-next, sweep-end}
 use borrow.Author.Needs.{needs}
 use Rattle.splitting.proofs.meeting_rows.Statement.{statement}
@@ -48,13 +49,12 @@ module _ (n : ℕ) (grid : List ℕ) (S : Set) (small : n ≤ 256) (classes : Eq
       at : (y : ℕ) → y < n → inRow left y ≡ S y
       at y h = ap (λ (l : List ℕ). inRow l y) copied ∙ inRow-written 4 S (drop 4 (replicate {A = ℕ} 4 0)) y (omega (arith, small, h))
 
-  gather-next : {out left row out′ left′ : List ℕ} {x x′ : ℕ} → x < n → row ≡ drop (x * rowWords n) grid
-      → out′ ≡ rowOf (rowWords n) (λ q. inRow out q || inRow row q) ++ drop (rowWords n) out
-      → left′ ≡ rowOf (rowWords n) (λ q. inRow left q && not (inRow row q)) ++ drop (rowWords n) left
+  gather-next : {out left row out′ left′ : List ℕ} {x x′ w : ℕ} → w ≡ rowWords n → x < n → row ≡ drop (x * rowWords n) grid
+      → out′ ≡ rowOf w (λ q. inRow out q || inRow row q) ++ drop w out → left′ ≡ rowOf w (λ q. inRow left q && not (inRow row q)) ++ drop w left
       → Next (inRow left′) 256 (x + 1) x′ → Gathered n P S out left x → Gathered n P S out′ left′ x′
-  gather-next {out} {left} {row} {out′} {left′} {x} {x′} hx row-is union minus next g = record {
-    out-long = ap length union ∙ length-written (rowWords n) _ out (omega (arith, small, g .out-long)) ∙ g .out-long;
-    left-long = ap length minus ∙ length-written (rowWords n) _ left (omega (arith, small, g .left-long)) ∙ g .left-long;
+  gather-next {out} {left} {row} {out′} {left′} {x} {x′} {w} width hx row-is union minus next g = record {
+    out-long = ap length union ∙ length-written w _ out (omega (arith, width, small, g .out-long)) ∙ g .out-long;
+    left-long = ap length minus ∙ length-written w _ left (omega (arith, width, small, g .left-long)) ∙ g .left-long;
     swept = sweep-next n P (Added n P S out) (Added n P S out′) (inRow left) (inRow left′) (classes .loop x hx) less
         (λ y hy old s k hk p. more k hk ∙ ap (λ (b : Bool). b || P x k) (old s k hk p))
         (λ y hy e s k hk p. more k hk ∙ ap (λ (b : Bool). inRow out k || b) (classes .trans x y k hx hy hk e p) ∙ or-true (inRow out k)) (g .swept) next;
@@ -67,10 +67,10 @@ module _ (n : ℕ) (grid : List ℕ) (S : Set) (small : n ≤ 256) (classes : Eq
   }
     where
       less : (y : ℕ) → y < n → inRow left′ y ≡ inRow left y && not (P x y)
-      less = zipped-row n x grid (λ a b. a && not b) left row-is minus
+      less = zipped-row n x grid (λ a b. a && not b) left width row-is minus
 
       more : (y : ℕ) → y < n → inRow out′ y ≡ inRow out y || P x y
-      more = zipped-row n x grid _||_ out row-is union
+      more = zipped-row n x grid _||_ out width row-is union
 
   gather-end : {out left : List ℕ} {x : ℕ} → n ≤ x → Gathered n P S out left x → Meets n P S (inRow out)
   gather-end {out} {left} {x} end g k hk = bool-iff (g .met k hk) (λ e.
@@ -84,8 +84,8 @@ Inv-loop blocks n set w out₀ left₀ x₀ out left x = Gathered n (relationOf 
 abbrev μ-loop : tie.MeasureT-loop
 μ-loop blocks n set w out₀ left₀ x₀ out left x = n - x
 
-add-w : tie.Need-add-w Inv-loop μ-loop
-add-w c = search needs
+row-words-requires : tie.Need-row-words-requires Inv-loop μ-loop
+row-words-requires c κs = search needs
 
 slice-aggregate-row-copy : tie.Need-slice-aggregate-row-copy Inv-loop μ-loop
 slice-aggregate-row-copy c = search needs
@@ -101,7 +101,7 @@ next-state-requires c κs = search needs
 
 loop-holds : tie.Need-loop-holds Inv-loop μ-loop
 loop-holds c =
-    let start = c .before .before .before .before .before .before .before in
+    let start = c .before .before .before .before .before .before .before .before in
     let a = start .args in
     gather-first (a .n) (now (a .blocks)) (inRow (now (a .set))) (start .pre .0) (start .pre .2) (c .before .before .before .row-copy .ensures) (c .next-state .ensures)
 
@@ -113,16 +113,16 @@ slice-aggregate-row-union c = search needs
 
 row-union-requires : tie.Need-row-union-requires Inv-loop μ-loop
 row-union-requires c κs =
-    let start = c .before .before .before .before .before .before .before .before .before .before .before in
-    (search needs, row-words (start .args .n) (now (start .args .blocks)) (c .before .row-at .ensures) (c .before .before .loop-test .taken) (start .pre .1))
+    let start = c .before .before .before .before .before .before .before .before .before .before .before .before in
+    (search needs, row-words (start .args .n) (now (start .args .blocks)) (c .before .before .before .before .before .before .before .before .before .row-words .ensures) (c .before .row-at .ensures) (c .before .before .loop-test .taken) (start .pre .1))
 
 slice-aggregate-row-minus : tie.Need-slice-aggregate-row-minus Inv-loop μ-loop
 slice-aggregate-row-minus c = search needs
 
 row-minus-requires : tie.Need-row-minus-requires Inv-loop μ-loop
 row-minus-requires c κs =
-    let start = c .before .before .before .before .before .before .before .before .before .before .before .before .before .before in
-    (search needs, row-words (start .args .n) (now (start .args .blocks)) (c .before .before .before .before .row-at .ensures) (c .before .before .before .before .before .loop-test .taken) (start .pre .1))
+    let start = c .before .before .before .before .before .before .before .before .before .before .before .before .before .before .before in
+    (search needs, row-words (start .args .n) (now (start .args .blocks)) (c .before .before .before .before .before .before .before .before .before .before .before .before .row-words .ensures) (c .before .before .before .before .row-at .ensures) (c .before .before .before .before .before .loop-test .taken) (start .pre .1))
 
 slice-aggregate-next-state-2 : tie.Need-slice-aggregate-next-state-2 Inv-loop μ-loop
 slice-aggregate-next-state-2 c = search needs
@@ -139,14 +139,14 @@ loop-less c = search needs
 loop-again : tie.Need-loop-again Inv-loop μ-loop
 loop-again c =
     let at = c .before .before .before .before .before .before .before .before .before .before in
-    let start = at .before .before .before .before .before .before .before .before in
+    let start = c .before .before .before .before .before .before .before .before .before .before .before .before .before .before .before .before .before .before .before in
     let a = start .args in
-    gather-next (a .n) (now (a .blocks)) (inRow (now (a .set))) (start .pre .0) (start .pre .2) (c .before .before .before .before .before .before .before .before .before .loop-test .taken) (c .before .before .before .before .before .before .before .before .row-at .ensures)
+    gather-next (a .n) (now (a .blocks)) (inRow (now (a .set))) (start .pre .0) (start .pre .2) (c .before .before .before .before .before .before .before .before .before .before .before .before .before .before .before .before .row-words .ensures) (c .before .before .before .before .before .before .before .before .before .loop-test .taken) (c .before .before .before .before .before .before .before .before .row-at .ensures)
     (c .before .before .before .before .before .before .row-union .ensures) (c .before .before .before .row-minus .ensures) (c .next-state2 .ensures) (at .loop .inv)
 
 returns : tie.Need-returns Inv-loop μ-loop
 returns c =
-    let start = c .before .before .before .before .before .before .before .before .before in
+    let start = c .before .before .before .before .before .before .before .before .before .before in
     gather-end (start .args .n) (now (start .args .blocks)) (inRow (now (start .args .set))) (start .pre .0) (start .pre .2) (c .loop-test .left) (c .before .loop .inv)
 
 pub meeting-rows-spec : {M : Type 1} → statement M
@@ -155,7 +155,7 @@ meeting-rows-spec =
     (tie.spec
     Inv-loop
     μ-loop
-    add-w
+    row-words-requires
     slice-aggregate-row-copy
     row-copy-requires
     slice-aggregate-next-state

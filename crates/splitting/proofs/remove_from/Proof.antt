@@ -5,9 +5,10 @@ use native.Mathlib.Omega.{arith}
 use lib.ListN.{length}
 use denote.Ref.{now}
 use Rattle.lts.specs.System.{Set, Rel}
-use Rattle.relation.specs.Matrix.{inRow, relationOf, matrixOf, rowsOf}
+use Rattle.rows.specs.Rows.{inRow}
+use Rattle.relation.specs.Matrix.{relationOf, matrixOf, rowsOf}
 use Rattle.relation.proofs.Matrices.{length-matrixOf, matrix-relation, formed-of}
-use Rattle.splitting.proofs.Rows.{row-without, rows-next, rows-first, rows-end}
+use Rattle.relation.proofs.Rows.{row-without, rows-next, rows-first, rows-end}
 use borrow.Author.Needs.{needs}
 use Rattle.splitting.proofs.remove_from.Statement.{statement}
 use Rattle.splitting.proofs.remove_from.Tie as tie

@@ -9,11 +9,12 @@ use lib.ListN.{length}
 use borrow.Author.Tests.{eqb-true}
 use denote.Ref.{now}
 use Rattle.lts.specs.System.{Rel}
-use Rattle.relation.specs.Matrix.{inRow, rowOf, rowWords, wordAt, relationOf}
-use Rattle.relation.proofs.Bounded.{length-listBelow}
-use Rattle.relation.proofs.Rows.{inRow-of, inRow-zeros, length-written}
+use Rattle.rows.specs.Rows.{inRow, rowOf, wordAt}
+use Rattle.relation.specs.Matrix.{relationOf}
+use Rattle.lts.proofs.Below.{length-listBelow}
+use Rattle.rows.proofs.Rows.{inRow-of, inRow-zeros, length-written}
 use Rattle.splitting.specs.Split.{Singles}
-use Rattle.splitting.proofs.Rows.{row-words}
+use Rattle.relation.proofs.Rows.{row-words}
 use borrow.Author.Needs.{needs}
 use Rattle.splitting.proofs.single_rows.Statement.{statement}
 use Rattle.splitting.proofs.single_rows.Tie as tie
@@ -44,8 +45,8 @@ Inv-loop blocks n rows w out₀ left₀ g₀ out left g = Alone n blocks out × 
 abbrev μ-loop : tie.MeasureT-loop
 μ-loop blocks n rows w out₀ left₀ g₀ out left g = n - g
 
-add-w : tie.Need-add-w Inv-loop μ-loop
-add-w c = search needs
+row-words-requires : tie.Need-row-words-requires Inv-loop μ-loop
+row-words-requires c κs = search needs
 
 slice-aggregate-row-copy : tie.Need-slice-aggregate-row-copy Inv-loop μ-loop
 slice-aggregate-row-copy c = search needs
@@ -79,8 +80,8 @@ row-at-requires c κs = search needs
 
 row-minus-requires : tie.Need-row-minus-requires Inv-loop μ-loop
 row-minus-requires c κs =
-    let start = c .before .before .before .before .before .before .before .before .before .before .before .before .before in
-    (search needs, row-words (start .args .n) (now (start .args .blocks)) (c .row-at .ensures) (c .before .before .before .before .loop-test .taken) (start .pre .1))
+    let start = c .before .before .before .before .before .before .before .before .before .before .before .before .before .before in
+    (search needs, row-words (start .args .n) (now (start .args .blocks)) (c .before .before .before .before .before .before .before .before .before .before .before .before .row-words .ensures) (c .row-at .ensures) (c .before .before .before .before .loop-test .taken) (start .pre .1))
 
 slice-aggregate-next-state-2 : tie.Need-slice-aggregate-next-state-2 Inv-loop μ-loop
 slice-aggregate-next-state-2 c = search needs
@@ -97,7 +98,7 @@ loop-less c = search needs
 loop-again : tie.Need-loop-again Inv-loop μ-loop
 loop-again c =
     let at = c .before .before .before .before .before .before .before .before .before in
-    let start = at .before .before .before .before .before .before .before .before in
+    let start = c .before .before .before .before .before .before .before .before .before .before .before .before .before .before .before .before .before .before in
     let a = start .args in
     let inv = at .loop .inv in (
       ⊎-elim
@@ -107,7 +108,7 @@ loop-again c =
           ))
           (λ w. subst⁻¹ (Alone (a .n) (now (a .blocks))) (w .1) (inv .0))
           (c .before .before .before .before .before .before .if1 .came),
-      ap length (c .before .before .before .row-minus .ensures) ∙ length-written (rowWords (a .n)) _ (at .loop .left) (omega (arith, start .pre .0, inv .1)) ∙ inv .1,
+      ap length (c .before .before .before .row-minus .ensures) ∙ length-written (c .before .before .before .before .before .before .before .before .before .before .before .before .before .before .before .before .row-words .result) _ (at .loop .left) (omega (arith, c .before .before .before .before .before .before .before .before .before .before .before .before .before .before .before .before .row-words .ensures, start .pre .0, inv .1)) ∙ inv .1,
     )
 
 returns : tie.Need-returns Inv-loop μ-loop
@@ -119,7 +120,7 @@ single-rows-spec =
     (tie.spec
     Inv-loop
     μ-loop
-    add-w
+    row-words-requires
     slice-aggregate-row-copy
     row-copy-requires
     slice-aggregate-next-state

@@ -1,12 +1,13 @@
-use mathlib.Core.Path.{ap, _∙_}
+use mathlib.Core.Path.{refl, ap, _∙_}
 use mathlib.Core.Bool.{Bool, not, _&&_}
 use mathlib.Core.List.{List}
 use Prim.Native.Nat.{ℕ}
 use lib.Dec.{eqb}
 use denote.Ref.{now}
-use Rattle.relation.specs.Matrix.{inRow, rowWords, relationOf}
+use Rattle.rows.specs.Rows.{inRow, rowWords}
+use Rattle.relation.specs.Matrix.{relationOf}
 use Rattle.relation.proofs.Matrices.{inRow-drop, matrixOf-cong}
-use Rattle.splitting.proofs.Rows.{row-words}
+use Rattle.relation.proofs.Rows.{row-words}
 use borrow.Author.Needs.{needs}
 use Rattle.splitting.proofs.split_row.Statement.{statement}
 use Rattle.splitting.proofs.split_row.Tie as tie
@@ -18,7 +19,7 @@ remove-common-requires : tie.Need-remove-common-requires
 remove-common-requires c κs =
     let start = c .before .before .before .before .before in
     let pre = start .pre in
-    (pre .1, pre .0, pre .3, row-words (start .args .n) (now (start .args .blocks)) (c .before .row-at .ensures) (pre .3) (pre .2), search needs)
+    (pre .1, pre .0, pre .3, row-words (start .args .n) (now (start .args .blocks)) refl (c .before .row-at .ensures) (pre .3) (pre .2), search needs)
 
 same-length : tie.Need-same-length
 same-length c = search needs

@@ -9,13 +9,13 @@ use borrow.Author.Tests.{not-false}
 use denote.Ref.{now}
 use Rattle.lts.specs.Bounded.{_⇒_}
 use Rattle.lts.specs.System.{Set, Rel}
-use Rattle.relation.specs.Matrix.{inRow, rowOf, rowWords, relationOf, Next}
-use Rattle.relation.specs.Check.{includedBelow}
-use Rattle.relation.proofs.Bounded.{clash, either, all-at}
-use Rattle.relation.proofs.Rows.{inRow-written, length-written}
+use Rattle.rows.specs.Rows.{inRow, rowOf, rowWords, Next, includedBelow}
+use Rattle.relation.specs.Matrix.{relationOf}
+use Rattle.lts.proofs.Below.{clash, either, all-at}
+use Rattle.rows.proofs.Rows.{inRow-written, length-written}
 use Rattle.relation.proofs.Matrices.{inRow-drop}
 use Rattle.splitting.specs.Split.{Unsplit, Parted}
-use Rattle.splitting.proofs.Rows.{row-words, zipped-row}
+use Rattle.relation.proofs.Rows.{row-words, zipped-row}
 use Rattle.splitting.proofs.Sweep.{Swept, sweep-first, sweep-next, sweep-end}
 use borrow.Author.Needs.{needs}
 use Rattle.splitting.proofs.split_rows.Statement.{statement}
@@ -57,35 +57,35 @@ module _ (n : ℕ) (grid : List ℕ) (shared Rem : Set) (small : n ≤ 256) (par
           ∙ ap (λ (b : Bool). b && shared y) (ap (λ (l : List ℕ). inRow l y) copied ∙ inRow-written 4 Rem (drop 4 (replicate {A = ℕ} 4 0)) y (omega (arith, small, h)))
 
   module _ {out left row : List ℕ} {x : ℕ} (row-is : row ≡ drop (x * rowWords n) grid) (g : Gathered n P shared Rem out left x) where
-    extended : {out′ : List ℕ} → out′ ≡ rowOf (rowWords n) (λ q. inRow out q || inRow row q) ++ drop (rowWords n) out → Extended n P Rem x out out′
-    extended {out′} union = record {
-      long = ap length union ∙ length-written (rowWords n) _ out (omega (arith, small, g .out-long)) ∙ g .out-long;
+    extended : {out′ : List ℕ} {w : ℕ} → w ≡ rowWords n → out′ ≡ rowOf w (λ q. inRow out q || inRow row q) ++ drop w out → Extended n P Rem x out out′
+    extended {out′} {w} width union = record {
+      long = ap length union ∙ length-written w _ out (omega (arith, width, small, g .out-long)) ∙ g .out-long;
       kept = λ k hk e. more k hk ∙ ap (λ (b : Bool). b || P x k) e;
       added = λ k h hk hh p p′ r. more k hk ∙ ap (λ (b : Bool). inRow out k || b) p ∙ or-true (inRow out k);
     }
       where
         more : (y : ℕ) → y < n → inRow out′ y ≡ inRow out y || P x y
-        more = zipped-row n x grid _||_ out row-is union
+        more = zipped-row n x grid _||_ out width row-is union
 
     -- nothing to add: Rem has the whole block
-    within : includedBelow (rowWords n * 64) (inRow row) Rem ≡ true → Extended n P Rem x out out
+    within : {w : ℕ} → w ≡ rowWords n → includedBelow (w * 64) (inRow row) Rem ≡ true → Extended n P Rem x out out
     unfolding includedBelow
-    within inside = record {
+    within {w} width inside = record {
       long = g .out-long;
       kept = λ k hk e. e;
       added = λ k h hk hh p p′ r.
-          absurd (clash (all-at (rowWords n * 64) (λ q. inRow row q ⇒ Rem q) inside h (omega (arith, hh)))
+          absurd (clash (all-at (w * 64) (λ q. inRow row q ⇒ Rem q) inside h (omega (arith, width, hh)))
           (ap₂ _⇒_ (ap (λ (l : List ℕ). inRow l h) row-is ∙ inRow-drop (rowWords n) grid x h ∙ p′) r));
     }
 
-    gather-next : {out′ left′ : List ℕ} {x′ : ℕ} → x < n → Extended n P Rem x out out′
-        → left′ ≡ rowOf (rowWords n) (λ q. inRow left q && not (inRow row q)) ++ drop (rowWords n) left
+    gather-next : {out′ left′ : List ℕ} {x′ w : ℕ} → w ≡ rowWords n → x < n → Extended n P Rem x out out′
+        → left′ ≡ rowOf w (λ q. inRow left q && not (inRow row q)) ++ drop w left
         → Next (inRow left′) 256 (x + 1) x′ → Gathered n P shared Rem out′ left′ x′
-    gather-next {out′} {left′} hx step minus next = record {
+    gather-next {out′} {left′} {w = w} width hx step minus next = record {
       out-long = step .long;
-      left-long = ap length minus ∙ length-written (rowWords n) _ left (omega (arith, small, g .left-long)) ∙ g .left-long;
+      left-long = ap length minus ∙ length-written w _ left (omega (arith, width, small, g .left-long)) ∙ g .left-long;
       swept = sweep-next n P (Added n P shared Rem out) (Added n P shared Rem out′) (inRow left) (inRow left′) (parts .classes .loop x hx)
-          (zipped-row n x grid (λ a b. a && not b) left row-is minus)
+          (zipped-row n x grid (λ a b. a && not b) left width row-is minus)
           (λ y hy old r s k h hk hh p p′ o. step .kept k hk (old r s k h hk hh p p′ o))
           (λ y hy e r s k h hk hh p p′ o. step .added k h hk hh (parts .classes .trans x y k hx hy hk e p) (parts .classes .trans x y h hx hy hh e p′) o) (g .swept) next;
     }
@@ -112,8 +112,8 @@ Inv-loop blocks n shared rem w out₀ left₀ x₀ out left x = Gathered n (rela
 abbrev μ-loop : tie.MeasureT-loop
 μ-loop blocks n shared rem w out₀ left₀ x₀ out left x = n - x
 
-add-w : tie.Need-add-w Inv-loop μ-loop
-add-w c = search needs
+row-words-requires : tie.Need-row-words-requires Inv-loop μ-loop
+row-words-requires c κs = search needs
 
 slice-aggregate-row-copy : tie.Need-slice-aggregate-row-copy Inv-loop μ-loop
 slice-aggregate-row-copy c = search needs
@@ -135,7 +135,7 @@ next-state-requires c κs = search needs
 
 loop-holds : tie.Need-loop-holds Inv-loop μ-loop
 loop-holds c =
-    let start = c .before .before .before .before .before .before .before .before .before .before .before in
+    let start = c .before .before .before .before .before .before .before .before .before .before .before .before in
     let a = start .args in
     gather-first (a .n) (now (a .blocks)) (inRow (now (a .shared))) (inRow (now (a .rem))) (start .pre .0) (start .pre .2) (c .before .before .before .before .before .before .before .row-copy .ensures) (c .before .before .before .row-intersect .ensures) (c .next-state .ensures)
 
@@ -144,24 +144,24 @@ row-at-requires c κs = search needs
 
 row-within-requires : tie.Need-row-within-requires Inv-loop μ-loop
 row-within-requires c κs =
-    let start = c .before .before .before .before .before .before .before .before .before .before .before .before .before .before .before in
-    (row-words (start .args .n) (now (start .args .blocks)) (c .before .row-at .ensures) (c .before .before .loop-test .taken) (start .pre .1), search needs)
+    let start = c .before .before .before .before .before .before .before .before .before .before .before .before .before .before .before .before in
+    (row-words (start .args .n) (now (start .args .blocks)) (c .before .before .before .before .before .before .before .before .before .before .before .before .before .before .row-words .ensures) (c .before .row-at .ensures) (c .before .before .loop-test .taken) (start .pre .1), search needs)
 
 slice-aggregate-row-union : tie.Need-slice-aggregate-row-union Inv-loop μ-loop
 slice-aggregate-row-union c = search needs
 
 row-union-requires : tie.Need-row-union-requires Inv-loop μ-loop
 row-union-requires c κs =
-    let start = c .before .before .before .before .before .before .before .before .before .before .before .before .before .before .before .before .before .before in
-    (search needs, row-words (start .args .n) (now (start .args .blocks)) (c .before .before .before .before .row-at .ensures) (c .before .before .before .before .before .loop-test .taken) (start .pre .1))
+    let start = c .before .before .before .before .before .before .before .before .before .before .before .before .before .before .before .before .before .before .before in
+    (search needs, row-words (start .args .n) (now (start .args .blocks)) (c .before .before .before .before .before .before .before .before .before .before .before .before .before .before .before .before .before .row-words .ensures) (c .before .before .before .before .row-at .ensures) (c .before .before .before .before .before .loop-test .taken) (start .pre .1))
 
 slice-aggregate-row-minus : tie.Need-slice-aggregate-row-minus Inv-loop μ-loop
 slice-aggregate-row-minus c = search needs
 
 row-minus-requires : tie.Need-row-minus-requires Inv-loop μ-loop
 row-minus-requires c κs =
-    let start = c .before .before .before .before .before .before .before .before .before .before .before .before .before .before .before .before .before .before in
-    (search needs, row-words (start .args .n) (now (start .args .blocks)) (c .before .before .before .before .row-at .ensures) (c .before .before .before .before .before .loop-test .taken) (start .pre .1))
+    let start = c .before .before .before .before .before .before .before .before .before .before .before .before .before .before .before .before .before .before .before in
+    (search needs, row-words (start .args .n) (now (start .args .blocks)) (c .before .before .before .before .before .before .before .before .before .before .before .before .before .before .before .before .before .row-words .ensures) (c .before .before .before .before .row-at .ensures) (c .before .before .before .before .before .loop-test .taken) (start .pre .1))
 
 slice-aggregate-next-state-2 : tie.Need-slice-aggregate-next-state-2 Inv-loop μ-loop
 slice-aggregate-next-state-2 c = search needs
@@ -178,22 +178,23 @@ loop-less c = search needs
 loop-again : tie.Need-loop-again Inv-loop μ-loop
 loop-again c =
     let at = c .before .before .before .before .before .before .before .before .before .before in
-    let start = at .before .before .before .before .before .before .before .before .before .before .before .before in
+    let start = c .before .before .before .before .before .before .before .before .before .before .before .before .before .before .before .before .before .before .before .before .before .before .before in
     let a = start .args in
     let Shared = inRow (now (a .shared)) in
     let Rem = inRow (now (a .rem)) in
+    let width = c .before .before .before .before .before .before .before .before .before .before .before .before .before .before .before .before .before .before .before .before .before .row-words .ensures in
     let row-is = c .before .before .before .before .before .before .before .before .row-at .ensures in
-    gather-next (a .n) (now (a .blocks)) Shared Rem (start .pre .0) (start .pre .2) row-is (at .loop .inv) (c .before .before .before .before .before .before .before .before .before .loop-test .taken)
+    gather-next (a .n) (now (a .blocks)) Shared Rem (start .pre .0) (start .pre .2) row-is (at .loop .inv) width (c .before .before .before .before .before .before .before .before .before .loop-test .taken)
     (⊎-elim
-    (λ w. extended (a .n) (now (a .blocks)) Shared Rem (start .pre .0) (start .pre .2) row-is (at .loop .inv) (w .4 ∙ w .2 .ensures))
+    (λ w. extended (a .n) (now (a .blocks)) Shared Rem (start .pre .0) (start .pre .2) row-is (at .loop .inv) width (w .4 ∙ w .2 .ensures))
     (λ w. subst⁻¹ (Extended (a .n) (relationOf (a .n) (now (a .blocks))) Rem (at .loop .x) (at .loop .out)) (w .1)
-    (within (a .n) (now (a .blocks)) Shared Rem (start .pre .0) (start .pre .2) row-is (at .loop .inv) (sym (c .before .before .before .before .before .before .row-within .ensures) ∙ not-false _ (w .0 .left))))
+    (within (a .n) (now (a .blocks)) Shared Rem (start .pre .0) (start .pre .2) row-is (at .loop .inv) width (sym (c .before .before .before .before .before .before .row-within .ensures) ∙ not-false _ (w .0 .left))))
     (c .before .before .before .before .before .if1 .came))
     (c .before .before .before .row-minus .ensures) (c .next-state2 .ensures)
 
 returns : tie.Need-returns Inv-loop μ-loop
 returns c =
-    let start = c .before .before .before .before .before .before .before .before .before .before .before .before .before in
+    let start = c .before .before .before .before .before .before .before .before .before .before .before .before .before .before in
     let a = start .args in
     gather-end (a .n) (now (a .blocks)) (inRow (now (a .shared))) (inRow (now (a .rem))) (start .pre .0) (start .pre .2) (c .loop-test .left) (c .before .loop .inv)
 
@@ -203,7 +204,7 @@ split-rows-spec =
     (tie.spec
     Inv-loop
     μ-loop
-    add-w
+    row-words-requires
     slice-aggregate-row-copy
     row-copy-requires
     slice-aggregate-row-intersect

@@ -1,14 +1,14 @@
-use Prim.Native.Nat.{ℕ, _+_, _-_, _*_, _/_, _≤_, _<_}
-use mathlib.Core.Path.{_≡_, refl, sym, _∙_, ap}
-use mathlib.Core.Bool.{Bool, true, false}
+-- `strategy_check::check_table` meets its contract: every entry up to e is sound. Assumes nothing.
+use Prim.Native.Nat.{ℕ, _-_, _/_, _≤_, _<_}
+use mathlib.Core.Path.{_≡_, refl, sym, _∙_}
+use mathlib.Core.Bool.{true}
 use native.Mathlib.Omega.{arith}
 use borrow.Author.Count.{below-none, below-more}
 use borrow.Author.Tests.{not-true, not-false}
 use lib.ListN.{length}
-use denote.Ref.{now}
-use Rattle.lts.specs.Table.{tableLts}
+use Rattle.lts.proofs.Below.{all-yes, all-not}
+use Rattle.transitions.specs.Table.{statesOf, tableLts}
 use Rattle.relation.specs.Matrix.{relationOf}
-use Rattle.relation.proofs.Bounded.{all-yes, all-not}
 use Rattle.strategy_check.specs.Entries.{soundAt}
 use Rattle.strategy_check.proofs.Entries.{accepted-some, accepted-none}
 use borrow.Author.Needs.{needs}
@@ -16,10 +16,10 @@ use Rattle.strategy_check.proofs.check_table.Statement.{statement}
 use Rattle.strategy_check.proofs.check_table.Tie as tie
 
 abbrev Inv-loop : tie.InvT-loop
-Inv-loop n m k sources actions targets offsets preorder numbers count e₀ e = (count ≡ length numbers / 4) × (e ≤ count) × ((x : ℕ) → x < e → soundAt (tableLts n m k sources actions targets) (relationOf n preorder) numbers x ≡ true)
+Inv-loop table start numbers count e₀ e = (count ≡ length numbers / 4) × (e ≤ count) × ((x : ℕ) → x < e → soundAt (tableLts table) (relationOf (statesOf table) start) numbers x ≡ true)
 
 abbrev μ-loop : tie.MeasureT-loop
-μ-loop n m k sources actions targets offsets preorder numbers count e₀ e = count - e
+μ-loop table start numbers count e₀ e = count - e
 
 returns : tie.Need-returns Inv-loop μ-loop
 returns c = sym (accepted-none _ _ _ (c .if1 .taken))

@@ -1,43 +1,51 @@
-use mathlib.Core.Path.{refl}
+-- `strategy_check::holds_pair` meets its contract: the two numbers that it reads are the pair's. Assumes nothing.
 use Rattle.strategy_check.specs.Entries.{holdsPair}
 use borrow.Author.Needs.{needs}
 use Rattle.strategy_check.proofs.holds_pair.Statement.{statement}
 use Rattle.strategy_check.proofs.holds_pair.Tie as tie
 
-mul-result : tie.Need-mul-result
-mul-result c = search needs
+mul-wide : tie.Need-mul-wide
+mul-wide c = search needs
 
-mul-result-2 : tie.Need-mul-result-2
-mul-result-2 c = search needs
+mul-wide-2 : tie.Need-mul-wide-2
+mul-wide-2 c = search needs
 
-shared-slice-read-result : tie.Need-shared-slice-read-result
-shared-slice-read-result c = search needs
+shared-slice-read-wide : tie.Need-shared-slice-read-wide
+shared-slice-read-wide c = search needs
 
-mul-result-3 : tie.Need-mul-result-3
-mul-result-3 c = search needs
+wide-requires : tie.Need-wide-requires
+wide-requires c κs = search needs
 
-add-result : tie.Need-add-result
-add-result c = search needs
+mul-wide-3 : tie.Need-mul-wide-3
+mul-wide-3 c = search needs
 
-mul-result-4 : tie.Need-mul-result-4
-mul-result-4 c = search needs
+add-wide : tie.Need-add-wide
+add-wide c = search needs
 
-shared-slice-read-result-2 : tie.Need-shared-slice-read-result-2
-shared-slice-read-result-2 c = search needs
+mul-wide-4 : tie.Need-mul-wide-4
+mul-wide-4 c = search needs
+
+shared-slice-read-wide-2 : tie.Need-shared-slice-read-wide-2
+shared-slice-read-wide-2 c = search needs
+
+wide-requires-2 : tie.Need-wide-requires-2
+wide-requires-2 c κs = search needs
 
 returns : tie.Need-returns
 unfolding holdsPair
-returns c = refl
+returns c = rw (c .before .before .wide .ensures, c .wide2 .ensures)
 
 pub holds-pair-spec : {M : Type 1} → statement M
 holds-pair-spec =
     tie.close
     (tie.spec
-    mul-result
-    mul-result-2
-    shared-slice-read-result
-    mul-result-3
-    add-result
-    mul-result-4
-    shared-slice-read-result-2
+    mul-wide
+    mul-wide-2
+    shared-slice-read-wide
+    wide-requires
+    mul-wide-3
+    add-wide
+    mul-wide-4
+    shared-slice-read-wide-2
+    wide-requires-2
     returns)

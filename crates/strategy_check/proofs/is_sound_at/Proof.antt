@@ -1,4 +1,5 @@
-use mathlib.Core.Path.{_≡_, _∙_}
+-- `strategy_check::is_sound_at` meets its contract: with the numbers as they were read. Assumes nothing.
+use mathlib.Core.Path.{_∙_}
 use Rattle.strategy_check.proofs.Replies.{sound-read}
 use borrow.Author.Needs.{needs}
 use Rattle.strategy_check.proofs.is_sound_at.Statement.{statement}
@@ -31,35 +32,41 @@ shared-slice-read-wide-2 c = search needs
 wide-requires-2 : tie.Need-wide-requires-2
 wide-requires-2 c κs = search needs
 
-mul-a : tie.Need-mul-a
-mul-a c = search needs
+mul-wide-5 : tie.Need-mul-wide-5
+mul-wide-5 c = search needs
 
-add-a : tie.Need-add-a
-add-a c = search needs
+add-wide-2 : tie.Need-add-wide-2
+add-wide-2 c = search needs
 
-mul-a-2 : tie.Need-mul-a-2
-mul-a-2 c = search needs
+mul-wide-6 : tie.Need-mul-wide-6
+mul-wide-6 c = search needs
 
-shared-slice-read-a : tie.Need-shared-slice-read-a
-shared-slice-read-a c = search needs
+shared-slice-read-wide-3 : tie.Need-shared-slice-read-wide-3
+shared-slice-read-wide-3 c = search needs
 
-mul-t : tie.Need-mul-t
-mul-t c = search needs
+wide-requires-3 : tie.Need-wide-requires-3
+wide-requires-3 c κs = search needs
 
-add-t : tie.Need-add-t
-add-t c = search needs
+mul-wide-7 : tie.Need-mul-wide-7
+mul-wide-7 c = search needs
 
-mul-t-2 : tie.Need-mul-t-2
-mul-t-2 c = search needs
+add-wide-3 : tie.Need-add-wide-3
+add-wide-3 c = search needs
 
-shared-slice-read-t : tie.Need-shared-slice-read-t
-shared-slice-read-t c = search needs
+mul-wide-8 : tie.Need-mul-wide-8
+mul-wide-8 c = search needs
+
+shared-slice-read-wide-4 : tie.Need-shared-slice-read-wide-4
+shared-slice-read-wide-4 c = search needs
+
+wide-requires-4 : tie.Need-wide-requires-4
+wide-requires-4 c κs = search needs
 
 is-sound-requires : tie.Need-is-sound-requires
 is-sound-requires c κs = search needs
 
 returns : tie.Need-returns
-returns c = c .is-sound .ensures ∙ sound-read _ _ _ _ (c .before .before .before .before .before .wide .ensures) (c .before .before .before .wide2 .ensures)
+returns c = c .is-sound .ensures ∙ sound-read _ _ _ _ (c .before .before .before .before .before .before .before .wide .ensures) (c .before .before .before .before .before .wide2 .ensures) (c .before .before .before .wide3 .ensures) (c .before .wide4 .ensures)
 
 pub is-sound-at-spec : {M : Type 1} → statement M
 is-sound-at-spec =
@@ -74,13 +81,15 @@ is-sound-at-spec =
     mul-wide-4
     shared-slice-read-wide-2
     wide-requires-2
-    mul-a
-    add-a
-    mul-a-2
-    shared-slice-read-a
-    mul-t
-    add-t
-    mul-t-2
-    shared-slice-read-t
+    mul-wide-5
+    add-wide-2
+    mul-wide-6
+    shared-slice-read-wide-3
+    wide-requires-3
+    mul-wide-7
+    add-wide-3
+    mul-wide-8
+    shared-slice-read-wide-4
+    wide-requires-4
     is-sound-requires
     returns)

@@ -1,77 +1,58 @@
+-- `strategy_check::replies_held` meets its contract: the row is covered up to transition i, and no entry up to j holds the pair. Assumes nothing.
 use Prim.Native.Nat.{ℕ, _+_, _-_, _≤_, _<_}
 use mathlib.Core.Path.{_≡_, refl, sym, _∙_, ap}
-use mathlib.Core.Bool.{Bool, true, false, _&&_}
+use mathlib.Core.Bool.{true, false}
 use native.Mathlib.Omega.{arith}
 use borrow.Author.Count.{below-none, below-more}
-use lib.Dec.{eqb}
-use lib.ListN.{length, getD}
 use denote.Ref.{now}
+use Rattle.transitions.specs.Table.{offsetAt, actionAt, targetAt}
+use Rattle.transitions.proofs.Entries.{Between, between-none, between-more, row-most}
 use Rattle.strategy_check.specs.Entries.{holdsPair, heldBefore}
-use Rattle.strategy_check.proofs.Rows.{Between, between-none, between-more, offset-most}
 use Rattle.strategy_check.proofs.Replies.{covers, covers-other, covers-held, held-at, held-none, replies-held, reply-open}
 use borrow.Author.Needs.{needs}
 use Rattle.strategy_check.proofs.replies_held.Statement.{statement}
 use Rattle.strategy_check.proofs.replies_held.Tie as tie
 
 abbrev Inv-entries : tie.InvT-entries
-Inv-entries n m k sources actions targets offsets numbers e q a t first end i₀ r j₀ i j = (end ≡ getD offsets (q + 1) 0) × (end ≤ 1024) × (getD offsets q 0 ≤ i) × (i < end) × Between (λ x. covers actions targets numbers e a t x ≡ true) (getD offsets q 0) i × (i ≡ i₀) × (getD actions i 0 ≡ a) × (r ≡ getD targets i 0) × (j ≤ e) × ((x : ℕ) → x < j → holdsPair numbers t r x ≡ false)
+Inv-entries table numbers e q a t first end i₀ r j₀ i j = (end ≡ offsetAt table (q + 1)) × (end ≤ 1024) × (offsetAt table q ≤ i) × (i < end) × Between (λ x. covers table numbers e a t x ≡ true) (offsetAt table q) i × (i ≡ i₀) × (actionAt table i ≡ a) × (r ≡ targetAt table i) × (j ≤ e) × ((x : ℕ) → x < j → holdsPair numbers t r x ≡ false)
 
 abbrev μ-entries : tie.MeasureT-entries
-μ-entries n m k sources actions targets offsets numbers e q a t first end i₀ r j₀ i j = e - j
+μ-entries table numbers e q a t first end i₀ r j₀ i j = e - j
 
 abbrev Inv-replies : tie.InvT-replies
-Inv-replies n m k sources actions targets offsets numbers e q a t first end i₀ i = (end ≡ getD offsets (q + 1) 0) × (end ≤ 1024) × (getD offsets q 0 ≤ i) × (i ≤ end) × Between (λ x. covers actions targets numbers e a t x ≡ true) (getD offsets q 0) i
+Inv-replies table numbers e q a t first end i₀ i = (end ≡ offsetAt table (q + 1)) × (end ≤ 1024) × (offsetAt table q ≤ i) × (i ≤ end) × Between (λ x. covers table numbers e a t x ≡ true) (offsetAt table q) i
 
 abbrev μ-replies : tie.MeasureT-replies
-μ-replies n m k sources actions targets offsets numbers e q a t first end i₀ i = end - i
+μ-replies table numbers e q a t first end i₀ i = end - i
 
-mul-wide : tie.Need-mul-wide Inv-entries μ-entries Inv-replies μ-replies
-mul-wide c = search needs
+offset-requires : tie.Need-offset-requires Inv-entries μ-entries Inv-replies μ-replies
+offset-requires c κs = search needs
 
-element-copy-out-wide : tie.Need-element-copy-out-wide Inv-entries μ-entries Inv-replies μ-replies
-element-copy-out-wide c = search needs
+add-offset : tie.Need-add-offset Inv-entries μ-entries Inv-replies μ-replies
+add-offset c = search needs
 
-wide-requires : tie.Need-wide-requires Inv-entries μ-entries Inv-replies μ-replies
-wide-requires c κs = search needs
-
-add-wide : tie.Need-add-wide Inv-entries μ-entries Inv-replies μ-replies
-add-wide c = search needs
-
-mul-wide-2 : tie.Need-mul-wide-2 Inv-entries μ-entries Inv-replies μ-replies
-mul-wide-2 c = search needs
-
-element-copy-out-wide-2 :
-    tie.Need-element-copy-out-wide-2 Inv-entries μ-entries Inv-replies μ-replies
-element-copy-out-wide-2 c = search needs
-
-wide-requires-2 : tie.Need-wide-requires-2 Inv-entries μ-entries Inv-replies μ-replies
-wide-requires-2 c κs = search needs
+offset-requires-2 : tie.Need-offset-requires-2 Inv-entries μ-entries Inv-replies μ-replies
+offset-requires-2 c κs = search needs
 
 replies-holds : tie.Need-replies-holds Inv-entries μ-entries Inv-replies μ-replies
-replies-holds c = let s = c .before .before .before .before .before in
+replies-holds c = let s = c .before .before .before in
     let a = s .args in
-    let rising = s .pre .1 .rising (a .q) (s .pre .2) in
-    let inside : a .q + 1 ≤ a .n = omega (arith, s .pre .2) in
-    let most = offset-most (a .n) (a .k) (now (a .sources)) (now (a .offsets)) (s .pre .1) (a .q + 1) inside in
-    (c .wide2 .ensures, omega (arith, c .wide2 .ensures, most, s .pre .0 .size), omega (arith, c .before .before .wide .ensures), omega (arith, c .wide2 .ensures, c .before .before .wide .ensures, rising), between-none _ _ _ (omega (arith, c .before .before .wide .ensures)))
+    let end = c .offset2 .ensures .0 in
+    let first = c .before .offset .ensures .0 in
+    let rising = s .pre .0 .rising (a .q) (s .pre .1) in
+    let most = row-most (now (a .table)) (s .pre .0) (a .q) (s .pre .1) in
+    (end, omega (arith, end, most), omega (arith, first), omega (arith, end, first, rising), between-none _ _ _ (omega (arith, first)))
 
-element-copy-out-wide-action :
-    tie.Need-element-copy-out-wide-action Inv-entries μ-entries Inv-replies μ-replies
-element-copy-out-wide-action c = search needs
+action-requires : tie.Need-action-requires Inv-entries μ-entries Inv-replies μ-replies
+action-requires c κs = search needs
 
-wide-action-requires : tie.Need-wide-action-requires Inv-entries μ-entries Inv-replies μ-replies
-wide-action-requires c κs = search needs
-
-mul-r : tie.Need-mul-r Inv-entries μ-entries Inv-replies μ-replies
-mul-r c = search needs
-
-element-copy-out-r : tie.Need-element-copy-out-r Inv-entries μ-entries Inv-replies μ-replies
-element-copy-out-r c = search needs
+target-requires : tie.Need-target-requires Inv-entries μ-entries Inv-replies μ-replies
+target-requires c κs = search needs
 
 entries-holds : tie.Need-entries-holds Inv-entries μ-entries Inv-replies μ-replies
-entries-holds c = let l = c .before .before .before .before .before .replies .inv in
-    let t = c .before .before .before .before .replies-test .taken in
-    (l .0, l .1, l .2, t, l .4, refl, sym (c .before .before .wide-action .ensures) ∙ c .before .if1 .taken, refl, search needs, below-none _)
+entries-holds c = let l = c .before .before .before .before .replies .inv in
+    let t = c .before .before .before .replies-test .taken in
+    (l .0, l .1, l .2, t, l .4, refl, sym (c .before .before .action .ensures .0) ∙ c .before .if1 .taken, c .target .ensures .0, search needs, below-none _)
 
 holds-pair-requires : tie.Need-holds-pair-requires Inv-entries μ-entries Inv-replies μ-replies
 holds-pair-requires c κs = search needs
@@ -84,7 +65,7 @@ replies-less c = search needs
 
 replies-again : tie.Need-replies-again Inv-entries μ-entries Inv-replies μ-replies
 replies-again c = let l = c .before .before .before .entries .inv in
-    (l .0, l .1, omega (arith, l .2), omega (arith, l .3), between-more _ _ _ (l .4) (covers-held _ _ _ _ _ _ _ (l .7) (held-at _ _ _ _ _ (c .before .before .entries-test .taken) (sym (c .before .holds-pair .ensures) ∙ c .if2 .taken))))
+    (l .0, l .1, omega (arith, l .2), omega (arith, l .3), between-more _ _ _ (l .4) (covers-held _ _ _ _ _ _ (l .7) (held-at _ _ _ _ _ (c .before .before .entries-test .taken) (sym (c .before .holds-pair .ensures) ∙ c .if2 .taken))))
 
 add-j : tie.Need-add-j Inv-entries μ-entries Inv-replies μ-replies
 add-j c = search needs
@@ -97,10 +78,10 @@ entries-again c = let l = c .before .before .before .entries .inv in
     (l .0, l .1, l .2, l .3, l .4, l .5, l .6, l .7, omega (arith, c .before .before .entries-test .taken), below-more _ _ (l .9) (sym (c .before .holds-pair .ensures) ∙ c .if2 .left))
 
 returns : tie.Need-returns Inv-entries μ-entries Inv-replies μ-replies
-returns c = let s = c .before .before .before .before .before .before .before .before .before .before .before .before .before in
+returns c = let s = c .before .before .before .before .before .before .before .before .before .before in
     let a = s .args in
     let l = c .before .entries .inv in
-    reply-open (a .n) (a .m) (a .k) (now (a .sources)) (now (a .actions)) (now (a .targets)) (now (a .offsets)) (s .pre .0) (s .pre .1) (a .q) (s .pre .2) _ _ _ _ (c .before .entries .i) (l .2, omega (arith, l .0, l .3)) (l .6)
+    reply-open (now (a .table)) (s .pre .0) (a .q) (s .pre .1) _ _ _ _ (c .before .entries .i) (l .2, omega (arith, l .0, l .3)) (l .6)
     (ap (heldBefore _ _ _) (sym (l .7)) ∙ held-none _ _ _ _ (λ j h. l .9 j (omega (arith, c .entries-test .left))))
 
 add-i-2 : tie.Need-add-i-2 Inv-entries μ-entries Inv-replies μ-replies
@@ -110,14 +91,14 @@ replies-less-2 : tie.Need-replies-less-2 Inv-entries μ-entries Inv-replies μ-r
 replies-less-2 c = search needs
 
 replies-again-2 : tie.Need-replies-again-2 Inv-entries μ-entries Inv-replies μ-replies
-replies-again-2 c = let l = c .before .before .before .before .replies .inv in
-    (l .0, l .1, omega (arith, l .2), omega (arith, c .before .before .before .replies-test .taken), between-more _ _ _ (l .4) (covers-other _ _ _ _ _ _ _ (λ e. c .if1 .left (c .before .wide-action .ensures ∙ e))))
+replies-again-2 c = let l = c .before .before .before .replies .inv in
+    (l .0, l .1, omega (arith, l .2), omega (arith, c .before .before .replies-test .taken), between-more _ _ _ (l .4) (covers-other _ _ _ _ _ _ (λ e. c .if1 .left (c .before .action .ensures .0 ∙ e))))
 
 returns-2 : tie.Need-returns-2 Inv-entries μ-entries Inv-replies μ-replies
-returns-2 c = let s = c .before .before .before .before .before .before .before in
+returns-2 c = let s = c .before .before .before .before .before in
     let a = s .args in
     let l = c .before .replies .inv in
-    replies-held (a .n) (a .m) (a .k) (now (a .sources)) (now (a .actions)) (now (a .targets)) (now (a .offsets)) (s .pre .0) (s .pre .1) (a .q) (s .pre .2) _ _ _ _ (λ j x y. l .4 j x (omega (arith, l .0, y, c .replies-test .left)))
+    replies-held (now (a .table)) (s .pre .0) (a .q) (s .pre .1) _ _ _ _ (λ j x y. l .4 j x (omega (arith, l .0, y, c .replies-test .left)))
 
 pub replies-held-spec : {M : Type 1} → statement M
 replies-held-spec =
@@ -127,18 +108,12 @@ replies-held-spec =
     μ-entries
     Inv-replies
     μ-replies
-    mul-wide
-    element-copy-out-wide
-    wide-requires
-    add-wide
-    mul-wide-2
-    element-copy-out-wide-2
-    wide-requires-2
+    offset-requires
+    add-offset
+    offset-requires-2
     replies-holds
-    element-copy-out-wide-action
-    wide-action-requires
-    mul-r
-    element-copy-out-r
+    action-requires
+    target-requires
     entries-holds
     holds-pair-requires
     add-i

@@ -1,117 +1,57 @@
-use Prim.Native.Nat.{ℕ, _+_, _-_, _*_, _≤_, _<_}
-use mathlib.Core.Path.{_≡_, refl, sym, _∙_, ap}
-use mathlib.Core.Bool.{Bool, true, false}
-use native.Mathlib.Omega.{arith}
-use lib.ListN.{length, getD, set, length-set}
+-- `strategy_write::has_answer` meets its contract: the targets of q meet the row. Assumes nothing.
+use Prim.Native.Nat.{ℕ, _*_, _≤_}
+use mathlib.Core.Path.{_∙_, ap, subst⁻¹}
+use mathlib.Core.List.{List}
+use lib.ListN.{length, drop}
 use denote.Ref.{now}
-use Rattle.relation.specs.Matrix.{relationOf}
-use Rattle.relation.proofs.Matrices.{pair-word}
-use Rattle.strategy_check.proofs.Rows.{Between, between-none, between-more}
-use Rattle.strategy_write.proofs.Answers.{leads, leads-is, row-rises, row-most, target-below, answer-at, no-answer}
+use Rattle.rows.specs.Rows.{rowWords}
+use Rattle.transitions.specs.Table.{statesOf}
+use Rattle.relation.proofs.Matrices.{row-long}
+use Rattle.strategy_write.proofs.Answers.{answer-met}
 use borrow.Author.Needs.{needs}
 use Rattle.strategy_write.proofs.has_answer.Statement.{statement}
 use Rattle.strategy_write.proofs.has_answer.Tie as tie
 
-abbrev Inv-loop : tie.InvT-loop
-Inv-loop n m k sources actions targets offsets before q a t w end i₀ i = (end ≡ getD offsets (q + 1) 0) × (end ≤ 1024) × (getD offsets q 0 ≤ i) × (i ≤ end) × Between (λ j. leads actions targets (relationOf n before) a t j ≡ false) (getD offsets q 0) i
+states-requires : tie.Need-states-requires
+states-requires c κs = search needs
 
-abbrev μ-loop : tie.MeasureT-loop
-μ-loop n m k sources actions targets offsets before q a t w end i₀ i = end - i
+successors-requires : tie.Need-successors-requires
+successors-requires c κs = search needs
 
-add-w : tie.Need-add-w Inv-loop μ-loop
-add-w c = search needs
+slice-aggregate-row-meets : tie.Need-slice-aggregate-row-meets
+slice-aggregate-row-meets c = search needs
 
-add-wide : tie.Need-add-wide Inv-loop μ-loop
-add-wide c = search needs
+row-at-requires : tie.Need-row-at-requires
+row-at-requires c κs = let s = c .before .before .before .before in
+    rw (c .before .before .states .ensures .0) (s .pre .1 .long, s .pre .0 .states, s .pre .3)
 
-mul-wide : tie.Need-mul-wide Inv-loop μ-loop
-mul-wide c = search needs
+row-words-requires : tie.Need-row-words-requires
+row-words-requires c κs = search needs
 
-element-copy-out-wide : tie.Need-element-copy-out-wide Inv-loop μ-loop
-element-copy-out-wide c = search needs
+row-meets-requires : tie.Need-row-meets-requires
+row-meets-requires c κs = let s = c .before .before .before .before .before .before in
+    let n = statesOf (now (s .args .table)) in
+    let e = c .before .before .before .before .states .ensures .0 in
+    let row = c .before .row-at .ensures ∙ ap (λ (k : ℕ). drop (s .args .t * rowWords k) (now (s .args .before))) e in
+    rw (c .row-words .ensures, e) (
+      search needs,
+      subst⁻¹ (λ (l : List ℕ). rowWords n ≤ length l) row (row-long n (now (s .args .before)) (s .pre .3) (s .pre .1 .long)),
+    )
 
-wide-requires : tie.Need-wide-requires Inv-loop μ-loop
-wide-requires c κs = search needs
-
-mul-wide-2 : tie.Need-mul-wide-2 Inv-loop μ-loop
-mul-wide-2 c = search needs
-
-element-copy-out-wide-2 : tie.Need-element-copy-out-wide-2 Inv-loop μ-loop
-element-copy-out-wide-2 c = search needs
-
-wide-requires-2 : tie.Need-wide-requires-2 Inv-loop μ-loop
-wide-requires-2 c κs = search needs
-
-loop-holds : tie.Need-loop-holds Inv-loop μ-loop
-loop-holds c = let s = c .before .before .before .before .before in
+returns : tie.Need-returns
+returns c = let s = c .before .before .before .before .before .before .before in
     let a = s .args in
-    (c .before .before .wide .ensures, omega (arith, c .before .before .wide .ensures, row-most (a .n) (a .m) (a .k) (now (a .sources)) (now (a .actions)) (now (a .targets)) (now (a .offsets)) (s .pre .0) (a .q) (s .pre .2)), omega (arith, c .wide2 .ensures), omega (arith, c .before .before .wide .ensures, c .wide2 .ensures, row-rises (a .n) (a .m) (a .k) (now (a .sources)) (now (a .actions)) (now (a .targets)) (now (a .offsets)) (s .pre .0) (a .q) (s .pre .2)), between-none _ _ _ (omega (arith, c .wide2 .ensures)))
-
-element-copy-out-if1 : tie.Need-element-copy-out-if1 Inv-loop μ-loop
-element-copy-out-if1 c = search needs
-
-mul-wide-3 : tie.Need-mul-wide-3 Inv-loop μ-loop
-mul-wide-3 c = search needs
-
-element-copy-out-wide-3 : tie.Need-element-copy-out-wide-3 Inv-loop μ-loop
-element-copy-out-wide-3 c = search needs
-
-wide-requires-3 : tie.Need-wide-requires-3 Inv-loop μ-loop
-wide-requires-3 c κs = search needs
-
-has-requires : tie.Need-has-requires Inv-loop μ-loop
-has-requires c κs = let s = c .before .before .before .before .before .before .before .before .before .before in
-    let a = s .args in
-    let end : c .before .before .before .before .loop .i < getD (now (a .offsets)) (a .q + 1) 0 = omega (arith, c .before .before .before .before .loop .inv .0, c .before .before .before .loop-test .taken) in
-    let below = target-below (a .n) (a .m) (a .k) (now (a .sources)) (now (a .actions)) (now (a .targets)) (now (a .offsets)) (s .pre .0) (a .q) (c .before .before .before .before .loop .i) (s .pre .2) end in
-    pair-word _ (now (a .before)) (s .pre .3) (omega (arith, below, c .wide3 .ensures)) (s .pre .1 .long)
-
-returns : tie.Need-returns Inv-loop μ-loop
-returns c = let s = c .before .before .before .before .before .before .before .before .before .before .before .before in
-    let a = s .args in
-    let end : c .before .before .before .before .before .before .loop .i < getD (now (a .offsets)) (a .q + 1) 0 = omega (arith, c .before .before .before .before .before .before .loop .inv .0, c .before .before .before .before .before .loop-test .taken) in
-    answer-at (a .n) (a .m) (a .k) (now (a .sources)) (now (a .actions)) (now (a .targets)) (now (a .offsets)) (s .pre .0) (relationOf (a .n) (now (a .before))) (a .q) (s .pre .2) (a .a) (a .t) (s .pre .3) _ (c .before .before .before .before .before .before .loop .inv .2) end (sym (leads-is (now (a .actions)) (now (a .targets)) (relationOf (a .n) (now (a .before))) (a .a) (a .t) (c .before .before .before .before .before .before .loop .i) (c .before .has .ensures) (c .before .before .wide3 .ensures)) ∙ c .if1 .taken)
-
-add-i : tie.Need-add-i Inv-loop μ-loop
-add-i c = search needs
-
-loop-less : tie.Need-loop-less Inv-loop μ-loop
-loop-less c = search needs
-
-loop-again : tie.Need-loop-again Inv-loop μ-loop
-loop-again c = let s = c .before .before .before .before .before .before .before .before .before .before .before .before in
-    let a = s .args in
-    let l = c .before .before .before .before .before .before .loop .inv in
-    (l .0, l .1, omega (arith, l .2), omega (arith, c .before .before .before .before .before .loop-test .taken), between-more _ _ _ (l .4) (sym (leads-is (now (a .actions)) (now (a .targets)) (relationOf (a .n) (now (a .before))) (a .a) (a .t) (c .before .before .before .before .before .before .loop .i) (c .before .has .ensures) (c .before .before .wide3 .ensures)) ∙ c .if1 .left))
-
-returns-2 : tie.Need-returns-2 Inv-loop μ-loop
-returns-2 c = let s = c .before .before .before .before .before .before .before in
-    let a = s .args in
-    let l = c .before .loop .inv in
-    no-answer (a .n) (a .m) (a .k) (now (a .sources)) (now (a .actions)) (now (a .targets)) (now (a .offsets)) (s .pre .0) (relationOf (a .n) (now (a .before))) (a .q) (s .pre .2) (a .a) (a .t) (s .pre .3) (λ j x y. l .4 j x (omega (arith, l .0, y, c .loop-test .left)))
+    answer-met (now (a .table)) (s .pre .0) (now (a .before)) (a .q) (a .a) (a .t) (s .pre .3) (c .before .before .before .before .before .states .ensures .0) (c .before .row-words .ensures)
+    (c .before .before .before .before .successors .ensures) (c .before .before .row-at .ensures) (c .row-meets .ensures)
 
 pub has-answer-spec : {M : Type 1} → statement M
 has-answer-spec =
     tie.close
     (tie.spec
-    Inv-loop
-    μ-loop
-    add-w
-    add-wide
-    mul-wide
-    element-copy-out-wide
-    wide-requires
-    mul-wide-2
-    element-copy-out-wide-2
-    wide-requires-2
-    loop-holds
-    element-copy-out-if1
-    mul-wide-3
-    element-copy-out-wide-3
-    wide-requires-3
-    has-requires
-    returns
-    add-i
-    loop-less
-    loop-again
-    returns-2)
+    states-requires
+    successors-requires
+    slice-aggregate-row-meets
+    row-at-requires
+    row-words-requires
+    row-meets-requires
+    returns)

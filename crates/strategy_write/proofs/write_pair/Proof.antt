@@ -1,11 +1,10 @@
-use mathlib.Core.Path.{_≡_, _∙_, ap}
+-- `strategy_write::write_pair` meets its contract: the entry of a pair that leaves. Assumes nothing.
 use Prim.Native.Nat.{_*_}
-use native.Mathlib.Omega.{arith}
+use mathlib.Core.Path.{_∙_, ap}
 use lib.Seq.{sets}
 use denote.Ref.{now}
-use Rattle.lts.specs.Bounded.{restrict}
-use Rattle.lts.specs.Table.{tableLts}
-use Rattle.relation.specs.Matrix.{relationOf}
+use Rattle.transitions.specs.Table.{tableLts}
+use Rattle.strategy_write.specs.Writing.{pairsOf}
 use Rattle.strategy_write.proofs.Writes.{pair-first, pair-later}
 use borrow.Author.Needs.{needs}
 use Rattle.strategy_write.proofs.write_pair.Statement.{statement}
@@ -26,12 +25,12 @@ same-length c = search needs
 returns : tie.Need-returns
 returns c = let s = c .before .before .before .before .before .before .before in
     let a = s .args in
-    c .before .before .put-entry .ensures ∙ ap (sets (now (a .numbers)) (4 * a .at)) (pair-first (tableLts (a .n) (a .m) (a .k) (now (a .sources)) (now (a .actions)) (now (a .targets))) (restrict (a .n) (relationOf (a .n) (now (a .before)))) (a .p) (a .q) (c .before .before .before .before .if1 .taken))
+    let t = now (a .table) in
+    c .before .before .put-entry .ensures ∙ ap (sets (now (a .numbers)) (4 * a .at)) (pair-first (tableLts t) (pairsOf t (now (a .before))) (a .p) (a .q) (c .before .before .before .before .if1 .taken))
 
 first-unanswered-requires : tie.Need-first-unanswered-requires
 first-unanswered-requires c κs = let s = c .before .before .before in
-    let a = s .args in
-    (s .pre .0, s .pre .1, s .pre .2, s .pre .3, s .pre .4 (c .if1 .left))
+    ((s .pre .0 .0, s .pre .0 .1, s .pre .0 .2, s .pre .0 .3), s .pre .1 (c .if1 .left))
 
 cast-put-entry-3 : tie.Need-cast-put-entry-3
 cast-put-entry-3 c = search needs
@@ -39,17 +38,17 @@ cast-put-entry-3 c = search needs
 cast-put-entry-4 : tie.Need-cast-put-entry-4
 cast-put-entry-4 c = search needs
 
-element-copy-out-wide-action : tie.Need-element-copy-out-wide-action
-element-copy-out-wide-action c = search needs
+action-requires : tie.Need-action-requires
+action-requires c κs = search needs
 
-wide-action-requires : tie.Need-wide-action-requires
-wide-action-requires c κs = search needs
+cast-put-entry-5 : tie.Need-cast-put-entry-5
+cast-put-entry-5 c = search needs
 
-mul-put-entry : tie.Need-mul-put-entry
-mul-put-entry c = search needs
+target-requires : tie.Need-target-requires
+target-requires c κs = search needs
 
-element-copy-out-put-entry : tie.Need-element-copy-out-put-entry
-element-copy-out-put-entry c = search needs
+cast-put-entry-6 : tie.Need-cast-put-entry-6
+cast-put-entry-6 c = search needs
 
 put-entry-requires-2 : tie.Need-put-entry-requires-2
 put-entry-requires-2 c κs = search needs
@@ -58,9 +57,11 @@ same-length-2 : tie.Need-same-length-2
 same-length-2 c = search needs
 
 returns-2 : tie.Need-returns-2
-returns-2 c = let s = c .before .before .before .before .before .before .before .before .before .before .before in
+returns-2 c = let s = c .before .before .before .before .before .before .before .before .before .before in
     let a = s .args in
-    c .before .before .put-entry2 .ensures ∙ ap (sets (now (a .numbers)) (4 * a .at)) (pair-later (tableLts (a .n) (a .m) (a .k) (now (a .sources)) (now (a .actions)) (now (a .targets))) (now (a .actions)) (now (a .targets)) (a .k) (restrict (a .n) (relationOf (a .n) (now (a .before)))) (a .p) (a .q) _ (c .before .before .before .before .before .before .before .before .if1 .left) (c .before .before .before .before .before .before .before .first-unanswered .ensures) (c .before .before .before .before .wide-action .ensures))
+    let t = now (a .table) in
+    c .before .before .put-entry2 .ensures ∙ ap (sets (now (a .numbers)) (4 * a .at)) (pair-later t (pairsOf t (now (a .before))) (a .p) (a .q) _ (c .before .before .before .before .before .before .before .if1 .left)
+    (c .before .before .before .before .before .before .first-unanswered .ensures) (c .before .before .before .before .action .ensures .0) (c .before .before .before .target .ensures .0))
 
 pub write-pair-spec : {M : Type 1} → statement M
 write-pair-spec =
@@ -74,10 +75,10 @@ write-pair-spec =
     first-unanswered-requires
     cast-put-entry-3
     cast-put-entry-4
-    element-copy-out-wide-action
-    wide-action-requires
-    mul-put-entry
-    element-copy-out-put-entry
+    action-requires
+    cast-put-entry-5
+    target-requires
+    cast-put-entry-6
     put-entry-requires-2
     same-length-2
     returns-2)

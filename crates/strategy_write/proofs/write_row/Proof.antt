@@ -1,37 +1,52 @@
-use mathlib.Core.Path.{_≡_, refl, sym, _∙_, ap, subst⁻¹}
-use mathlib.Core.List.{List}
+-- `strategy_write::write_row` meets its contract: cell by cell. Assumes nothing.
 use Prim.Native.Nat.{ℕ, _+_, _-_, _*_, _≤_, _<_}
+use mathlib.Core.Path.{_≡_, _∙_, ap, subst⁻¹}
+use mathlib.Core.Bool.{Bool}
+use mathlib.Core.List.{List}
 use native.Mathlib.Omega.{arith}
 use lib.ListN.{length}
 use lib.Seq.{sets}
 use denote.Ref.{now}
-use Rattle.lts.specs.Bounded.{restrict, concatBelow}
+use Rattle.lts.specs.Bounded.{concatBelow}
 use Rattle.lts.specs.declared.Entry.{Entry}
 use Rattle.lts.specs.Strategy.{entryNumbers}
-use Rattle.lts.specs.Table.{tableLts}
-use Rattle.relation.specs.Matrix.{relationOf}
-use Rattle.strategy_write.specs.Writing.{cellEntries, rowEntries}
-use Rattle.strategy_write.proofs.Writes.{written, written-none, written-more, at-none, at-more, room-next, same-size, row-is}
+use Rattle.transitions.specs.Table.{statesOf, tableLts}
+use Rattle.strategy_write.specs.Writing.{pairsOf, cellEntries}
+use Rattle.strategy_write.proofs.Writes.{written, written-none, at-none, at-more, written-more, room-next, same-size, row-is}
 use borrow.Author.Needs.{needs}
 use Rattle.strategy_write.proofs.write_row.Statement.{statement}
 use Rattle.strategy_write.proofs.write_row.Tie as tie
 
+-- the entries of the cells of row p
+abbrev cells : List ℕ → List ℕ → List ℕ → Bool → ℕ → ℕ → List Entry
+cells table before after initial p = cellEntries (tableLts table) initial (pairsOf table before) (pairsOf table after) p
+
 abbrev Inv-loop : tie.InvT-loop
-Inv-loop n m k sources actions targets offsets before after initial p numbers₀ first at₀ q₀ numbers at q = (q ≤ n) × (at ≡ first + length (concatBelow q (cellEntries (tableLts n m k sources actions targets) initial (restrict n (relationOf n before)) (restrict n (relationOf n after)) p))) × (numbers ≡ written numbers₀ first (cellEntries (tableLts n m k sources actions targets) initial (restrict n (relationOf n before)) (restrict n (relationOf n after)) p) q)
+Inv-loop table before after initial p numbers₀ first n at₀ q₀ numbers at q = (q ≤ n) × (at ≡ first + length (concatBelow q (cells table before after initial p))) × (numbers ≡ written numbers₀ first (cells table before after initial p) q)
 
 abbrev μ-loop : tie.MeasureT-loop
-μ-loop n m k sources actions targets offsets before after initial p numbers₀ first at₀ q₀ numbers at q = n - q
+μ-loop table before after initial p numbers₀ first n at₀ q₀ numbers at q = n - q
+
+states-requires : tie.Need-states-requires Inv-loop μ-loop
+states-requires c κs = search needs
 
 loop-holds : tie.Need-loop-holds Inv-loop μ-loop
-loop-holds c = let s = c .before .before .before in
+loop-holds c = let s = c .before .before .before .before in
     let a = s .args in
-    (search needs, at-none (now (a .numbers)) (a .first) (cellEntries (tableLts (a .n) (a .m) (a .k) (now (a .sources)) (now (a .actions)) (now (a .targets))) (a .initial) (restrict (a .n) (relationOf (a .n) (now (a .before)))) (restrict (a .n) (relationOf (a .n) (now (a .after)))) (a .p)), written-none (now (a .numbers)) (a .first) (cellEntries (tableLts (a .n) (a .m) (a .k) (now (a .sources)) (now (a .actions)) (now (a .targets))) (a .initial) (restrict (a .n) (relationOf (a .n) (now (a .before)))) (restrict (a .n) (relationOf (a .n) (now (a .after)))) (a .p)))
+    let F = cells (now (a .table)) (now (a .before)) (now (a .after)) (a .initial) (a .p) in
+    (search needs, at-none (now (a .numbers)) (a .first) F, written-none (now (a .numbers)) (a .first) F)
 
 write-cell-requires : tie.Need-write-cell-requires Inv-loop μ-loop
-write-cell-requires c κs = let s = c .before .before .before .before .before .before in
+write-cell-requires c κs = let s = c .before .before .before .before .before .before .before in
     let a = s .args in
+    let t = now (a .table) in
     let l = c .before .before .loop .inv in
-    (s .pre .0, s .pre .1, s .pre .2, s .pre .3, s .pre .4, c .before .loop-test .taken, room-next (now (a .numbers)) (a .first) (cellEntries (tableLts (a .n) (a .m) (a .k) (now (a .sources)) (now (a .actions)) (now (a .targets))) (a .initial) (restrict (a .n) (relationOf (a .n) (now (a .before)))) (restrict (a .n) (relationOf (a .n) (now (a .after)))) (a .p)) _ (a .n) (c .before .loop-test .taken) (l .1) (l .2) (subst⁻¹ (λ (x : List Entry). 4 * (a .first + length x) ≤ length (now (a .numbers))) (row-is (a .n) (a .m) (a .k) (now (a .sources)) (now (a .actions)) (now (a .targets)) (a .initial) (restrict (a .n) (relationOf (a .n) (now (a .before)))) (restrict (a .n) (relationOf (a .n) (now (a .after)))) (a .p)) (s .pre .5)))
+    let F = cells t (now (a .before)) (now (a .after)) (a .initial) (a .p) in
+    let below : c .before .before .loop .q < statesOf t = omega (arith, c .before .loop-test .taken, c .before .before .before .states .ensures .0) in (
+      (s .pre .0 .0, s .pre .0 .1, below),
+      room-next (now (a .numbers)) (a .first) F _ (statesOf t) below (l .1) (l .2)
+          (subst⁻¹ (λ (x : List Entry). 4 * (a .first + length x) ≤ length (now (a .numbers))) (row-is t (a .initial) (pairsOf t (now (a .before))) (pairsOf t (now (a .after))) (a .p)) (s .pre .1)),
+    )
 
 add-q : tie.Need-add-q Inv-loop μ-loop
 add-q c = search needs
@@ -40,22 +55,27 @@ loop-less : tie.Need-loop-less Inv-loop μ-loop
 loop-less c = search needs
 
 loop-again : tie.Need-loop-again Inv-loop μ-loop
-loop-again c = let s = c .before .before .before .before .before .before .before .before .before in
+loop-again c = let s = c .before .before .before .before .before .before .before .before .before .before in
     let a = s .args in
     let l = c .before .before .before .before .before .loop .inv in
-    (omega (arith, c .before .before .before .before .loop-test .taken), at-more (now (a .numbers)) (a .first) (cellEntries (tableLts (a .n) (a .m) (a .k) (now (a .sources)) (now (a .actions)) (now (a .targets))) (a .initial) (restrict (a .n) (relationOf (a .n) (now (a .before)))) (restrict (a .n) (relationOf (a .n) (now (a .after)))) (a .p)) _ (l .1) (c .before .before .write-cell .ensures .0), written-more (now (a .numbers)) (a .first) (cellEntries (tableLts (a .n) (a .m) (a .k) (now (a .sources)) (now (a .actions)) (now (a .targets))) (a .initial) (restrict (a .n) (relationOf (a .n) (now (a .before)))) (restrict (a .n) (relationOf (a .n) (now (a .after)))) (a .p)) _ (l .2) (l .1) (c .before .before .write-cell .ensures .1))
+    let F = cells (now (a .table)) (now (a .before)) (now (a .after)) (a .initial) (a .p) in (
+      omega (arith, c .before .before .before .before .loop-test .taken),
+      at-more (now (a .numbers)) (a .first) F _ (l .1) (c .before .before .write-cell .ensures .0),
+      written-more (now (a .numbers)) (a .first) F _ (l .2) (l .1) (c .before .before .write-cell .ensures .1),
+    )
 
 same-length : tie.Need-same-length Inv-loop μ-loop
-same-length c = let s = c .before .before .before .before .before in
-    let a = s .args in
-    same-size (now (a .numbers)) (a .first) (cellEntries (tableLts (a .n) (a .m) (a .k) (now (a .sources)) (now (a .actions)) (now (a .targets))) (a .initial) (restrict (a .n) (relationOf (a .n) (now (a .before)))) (restrict (a .n) (relationOf (a .n) (now (a .after)))) (a .p)) _ (c .before .loop .inv .2)
+same-length c = let a = c .before .before .before .before .before .before .args in
+    same-size (now (a .numbers)) (a .first) (cells (now (a .table)) (now (a .before)) (now (a .after)) (a .initial) (a .p)) _ (c .before .loop .inv .2)
 
 returns : tie.Need-returns Inv-loop μ-loop
-returns c = let s = c .before .before .before .before .before in
+returns c = let s = c .before .before .before .before .before .before in
     let a = s .args in
+    let t = now (a .table) in
     let l = c .before .loop .inv in
-    let end : c .before .loop .q ≡ a .n = omega (arith, l .0, c .loop-test .left) in
-    let list = ap (λ (i : ℕ). concatBelow i (cellEntries (tableLts (a .n) (a .m) (a .k) (now (a .sources)) (now (a .actions)) (now (a .targets))) (a .initial) (restrict (a .n) (relationOf (a .n) (now (a .before)))) (restrict (a .n) (relationOf (a .n) (now (a .after)))) (a .p))) end ∙ row-is (a .n) (a .m) (a .k) (now (a .sources)) (now (a .actions)) (now (a .targets)) (a .initial) (restrict (a .n) (relationOf (a .n) (now (a .before)))) (restrict (a .n) (relationOf (a .n) (now (a .after)))) (a .p) in
+    let end : c .before .loop .q ≡ statesOf t = omega (arith, l .0, c .loop-test .left, c .before .before .states .ensures .0) in
+    let list = ap (λ (i : ℕ). concatBelow i (cells t (now (a .before)) (now (a .after)) (a .initial) (a .p))) end
+    ∙ row-is t (a .initial) (pairsOf t (now (a .before))) (pairsOf t (now (a .after))) (a .p) in
     (l .1 ∙ ap (λ (x : List Entry). a .first + length x) list, l .2 ∙ ap (λ (x : List Entry). sets (now (a .numbers)) (4 * a .first) (entryNumbers x)) list)
 
 pub write-row-spec : {M : Type 1} → statement M
@@ -64,6 +84,7 @@ write-row-spec =
     (tie.spec
     Inv-loop
     μ-loop
+    states-requires
     loop-holds
     write-cell-requires
     add-q

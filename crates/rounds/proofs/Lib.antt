@@ -1,4 +1,0 @@
-pub mod Steps
-pub mod Settling
-pub mod Refutations
-pub mod Blank

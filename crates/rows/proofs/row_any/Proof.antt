@@ -1,0 +1,70 @@
+-- `rows::row_any` meets its contract: by `word-found` and `word-passed`. Assumes nothing.
+use mathlib.Core.Path.{_≡_}
+use Prim.Native.Nat.{ℕ, _≤_, _<_, _*_, _-_}
+use native.Mathlib.Nat.{not-suc-le-zero}
+use native.Mathlib.Omega.{arith}
+use denote.Ref.{now}
+use Rattle.rows.specs.Rows.{inRow}
+use mathlib.Core.Bool.{false}
+use Rattle.rows.proofs.Rows.{left-bitwise}
+use Rattle.rows.proofs.Tests.{word-found, word-passed, none-passed}
+use borrow.Author.Needs.{needs}
+use Rattle.rows.proofs.row_any.Statement.{statement}
+use Rattle.rows.proofs.row_any.Tie as tie
+
+abbrev Inv-loop : tie.InvT-loop
+Inv-loop row k c₀ c = (c ≤ k) × ((q : ℕ) → q < c * 64 → inRow row q ≡ false)
+
+abbrev μ-loop : tie.MeasureT-loop
+μ-loop row k c₀ c = k - c
+
+loop-holds : tie.Need-loop-holds Inv-loop μ-loop
+loop-holds c = (search needs, λ q h. absurd (not-suc-le-zero h))
+
+mul-if1 : tie.Need-mul-if1 Inv-loop μ-loop
+mul-if1 c = search needs
+
+shared-slice-read-if1 : tie.Need-shared-slice-read-if1 Inv-loop μ-loop
+shared-slice-read-if1 c = search needs
+
+returns : tie.Need-returns Inv-loop μ-loop
+returns c =
+    let at = c .before .before .before in
+    let row = now (at .before .args .row) in
+    let j = at .loop .c in
+    let word = c .before .shared-slice-known .given j .fits in
+    word-found _ _ left-bitwise row row j word word _ (c .before .before .loop-test .taken) (c .if1 .taken)
+
+add-c : tie.Need-add-c Inv-loop μ-loop
+add-c c = search needs
+
+loop-less : tie.Need-loop-less Inv-loop μ-loop
+loop-less c = search needs
+
+loop-again : tie.Need-loop-again Inv-loop μ-loop
+loop-again c =
+    let at = c .before .before .before in
+    let row = now (at .before .args .row) in
+    let j = at .loop .c in
+    let word = c .before .shared-slice-known .given j .fits in (
+      search needs,
+      word-passed _ _ left-bitwise row row j word word (c .if1 .left) (at .loop .inv .1),
+    )
+
+returns-2 : tie.Need-returns-2 Inv-loop μ-loop
+returns-2 c = none-passed _ (c .before .loop .c) _ (omega arith) (c .before .loop .inv .1)
+
+pub row-any-spec : {M : Type 1} → statement M
+row-any-spec =
+    tie.close
+    (tie.spec
+    Inv-loop
+    μ-loop
+    loop-holds
+    mul-if1
+    shared-slice-read-if1
+    returns
+    add-c
+    loop-less
+    loop-again
+    returns-2)
