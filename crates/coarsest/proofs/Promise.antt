@@ -53,7 +53,7 @@ module _ (L : Lts) (wf : WellFormed L) (start : Rel) (pre : Preorder L start) (s
 
   name : {representatives : List ℕ} → representatives ≡ representativesOf L K → (p : ℕ) → p < L .states → getD representatives p 0 ≡ lowest (L .states) (block K p)
   unfolding representativesOf representative
-  name e p l = ap (λ (x : List ℕ). getD x p 0) e ∙ getD-listBelow (L .states) (representative L K) p l
+  name e p l = ap (λ (x : List ℕ). getD x p 0) e ∙ getD-listBelow 0 (L .states) (representative L K) p l
 
   low : (p : ℕ) → p < L .states → T (block K p (lowest (L .states) (block K p)))
   low p l = let k = is .loop p l in lowest-passes (L .states) (block K p) p l (block-iff K p p .1 (k, k)) .1

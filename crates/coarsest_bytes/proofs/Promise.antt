@@ -36,7 +36,7 @@ module _ (n : ℕ) (few : n ≤ 256) (K : Rel) where
       below : Below (256 ^ 2) (representativesOf L K)
       below p l =
           let h : p < L .states = rw (length-listBelow (L .states) (representative L K)) at l in
-          rw (getD-listBelow (L .states) (representative L K) p h) (omega (arith, lowest-le (L .states) (block K p)))
+          rw (getD-listBelow 0 (L .states) (representative L K) p h) (omega (arith, lowest-le (L .states) (block K p)))
 
 module _ (s start schedule grid₀ representatives₀ : List ℕ) (reply : Reply) (grid representatives : List ℕ)
     (is : coarsestOnBytes s start schedule grid₀ representatives₀ ≡ record { reply = reply; grid = grid; representatives = representatives }) where

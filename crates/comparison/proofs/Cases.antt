@@ -15,7 +15,8 @@ use Rattle.encoding.proofs.Sheets.{F1, F2}
 use Rattle.encoding.specs.Records.{numberAt, headerOf, stateRecordAt, transitionRecordAt, stateRecord, transitionRecord}
 use Rattle.encoding.specs.Encoding.{inRange, stateFits, statesFit, transitionFits, transitionsFit, walk, chain, reached, member, distinct, chainsFit, successor, successorsFit, headedRules, sheetRules}
 use Rattle.encoding.specs.Denotation.{any, ltsOf}
-use Rattle.comparison.specs.Call.{fits, compareRules, compareCall, ComparePromise}
+use Rattle.inputs.specs.Both.{fits, bothRules}
+use Rattle.comparison.specs.Call.{compareCall, ComparePromise}
 use Rattle.comparison.proofs.Promise.{promised}
 
 abbrev ended : List ℕ
@@ -31,19 +32,19 @@ cyclic = 1 ∷ 0 ∷ 1 ∷ 0 ∷ 1 ∷ 0 ∷ 0 ∷ 0 ∷ 1 ∷ 0 ∷ 1 ∷ 0 ∷
 cases : (compareCall F1 F1 ≡ given (1 ∷ 0 ∷ [])) × (compareCall ended F1 ≡ given (0 ∷ 1 ∷ []))
     × (compareCall once F2 ≡ given (1 ∷ 2 ∷ [])) × (compareCall F2 once ≡ given (0 ∷ 2 ∷ []))
     × (compareCall cyclic [] ≡ refused Chain) × (compareCall [] cyclic ≡ refused Length) × (compareCall F1 cyclic ≡ refused Chain)
-unfolding xor anyBelow allBelow sumBelow countBelow passing concatBelow listBelow lowest restrict allStates anyState allActions into terminationPreorder initial block representative isRepresentative pending remove split prune refine eachAction stepOf chosen step run coarsest disjointUnion comparison simulated broken checked numberAt headerOf stateRecordAt transitionRecordAt stateRecord transitionRecord inRange stateFits statesFit transitionFits transitionsFit walk chain reached member distinct chainsFit successor successorsFit headedRules sheetRules any ltsOf fits compareRules compareCall
+unfolding xor anyBelow allBelow sumBelow countBelow passing concatBelow listBelow lowest restrict allStates anyState allActions into terminationPreorder initial block representative isRepresentative pending remove split prune refine eachAction stepOf chosen step run coarsest disjointUnion comparison simulated broken checked numberAt headerOf stateRecordAt transitionRecordAt stateRecord transitionRecord inRange stateFits statesFit transitionFits transitionsFit walk chain reached member distinct chainsFit successor successorsFit headedRules sheetRules any ltsOf fits bothRules compareCall
 cases = (refl, refl, refl, refl, refl, refl, refl)
 
 -- of sheets that keep the rules, the promise allows one reply alone
-one-reply : (first second : List ℕ) {a b : Reply} → broken (compareRules first second) ≡ Nothing
+one-reply : (first second : List ℕ) {a b : Reply} → broken (bothRules first second) ≡ Nothing
     → ComparePromise first second a → ComparePromise first second b → a .values ≡ b .values
 one-reply first second e p q = ap (λ (r : Reply). r .values)
     (⊎-elim (λ x. ⊎-elim (λ y. x .0 ∙ sym (y .0)) (λ y. absurd (y .1 (x .1))) (q .answers e))
     (λ x. ⊎-elim (λ y. absurd (x .1 (y .1))) (λ y. x .0 ∙ sym (y .0)) (q .answers e)) (p .answers e))
 
 -- so it refuses a constant yes, a constant no, and turns that are not made, on sheets where the answer is another
-kept : (broken (compareRules F2 once) ≡ Nothing) × (broken (compareRules once F2) ≡ Nothing)
-unfolding allBelow concatBelow broken numberAt headerOf stateRecordAt transitionRecordAt stateRecord transitionRecord inRange stateFits statesFit transitionFits transitionsFit walk chain reached member distinct chainsFit successor successorsFit headedRules sheetRules fits compareRules
+kept : (broken (bothRules F2 once) ≡ Nothing) × (broken (bothRules once F2) ≡ Nothing)
+unfolding allBelow concatBelow broken numberAt headerOf stateRecordAt transitionRecordAt stateRecord transitionRecord inRange stateFits statesFit transitionFits transitionsFit walk chain reached member distinct chainsFit successor successorsFit headedRules sheetRules fits bothRules
 kept = (refl, refl)
 
 not-always-yes : (turns : ℕ) → ComparePromise F2 once (given (1 ∷ turns ∷ [])) → ⊥

@@ -1,9 +1,9 @@
 -- What is promised of compare's reply follows from the call's equation.
 use Prim.Native.Nat.{ℕ, _*_, _-_, _≤_, _<_}
 use native.Mathlib.Omega.{arith}
-use mathlib.Core.Path.{_≡_, refl, sym}
+use mathlib.Core.Path.{_≡_, refl}
 use mathlib.Core.Logic.{_↔_, ⊎-elim}
-use mathlib.Core.List.{List, [], _++_}
+use mathlib.Core.List.{List, []}
 use lib.Dec.{T}
 use Rattle.lts.specs.System.{Rel, Lts, terminationPreorder}
 use Rattle.lts.specs.Union.{disjointUnion, comparison, simulated}
@@ -13,30 +13,29 @@ use Rattle.lts.proofs.Bounded.{not-iff, dec}
 use Rattle.lts.proofs.Comparison.{termination-tests}
 use Rattle.lts.proofs.Union.{union-formed}
 use Rattle.lts.proofs.Demand.{demand3}
-use Rattle.lts.proofs.Rule.{both-kept, when-broken, when-kept, decided}
+use Rattle.lts.proofs.Rule.{when-broken, when-kept, decided}
 use Rattle.encoding.specs.Records.{headerOf}
-use Rattle.encoding.specs.Encoding.{sheetRules}
 use Rattle.encoding.specs.Denotation.{ltsOf}
 use Rattle.encoding.specs.Read.{Denoted}
-use Rattle.encoding.proofs.Reader.{sheet-passed}
+use Rattle.encoding.proofs.Reader.{reads}
 use Rattle.encoding.proofs.Laws.{denoted}
-use Rattle.comparison.specs.Call.{compareRules, compareCall, Relates, ComparePromise}
-
-known : (s : List ℕ) → broken (sheetRules s) ≡ Nothing → Denoted s (headerOf s)
-known s e = denoted s (headerOf s) (sym (sheet-passed s refl e))
+use Rattle.inputs.specs.Both.{bothRules, Joinable}
+use Rattle.inputs.proofs.Joined.{both-joinable}
+use Rattle.comparison.specs.Call.{compareCall, Relates, ComparePromise}
 
 module _ (first second : List ℕ) where
   abbrev U : Lts
   U = disjointUnion (ltsOf first) (ltsOf second)
 
-  module _ (kept : broken (compareRules first second) ≡ Nothing) where
+  module _ (kept : broken (bothRules first second) ≡ Nothing) where
+    read : Joinable first (headerOf first) second (headerOf second)
+    read = both-joinable first second refl refl kept
+
     one : Denoted first (headerOf first)
-    unfolding compareRules
-    one = known first (both-kept (sheetRules first) _ (both-kept (sheetRules first ++ sheetRules second) _ kept .0) .0)
+    one = denoted first _ (reads first _ (read .one))
 
     two : Denoted second (headerOf second)
-    unfolding compareRules
-    two = known second (both-kept (sheetRules first) _ (both-kept (sheetRules first ++ sheetRules second) _ kept .0) .1)
+    two = denoted second _ (reads second _ (read .two))
 
     -- demand 3 about the joined flow
     all : Demand3 U (terminationPreorder U) []
@@ -67,7 +66,7 @@ module _ (first second : List ℕ) where
   pub promised : {reply : Reply} → compareCall first second ≡ reply → ComparePromise first second reply
   unfolding compareCall
   promised is = record {
-    refuses = λ r e. when-broken (compareRules first second) _ _ is e;
-    answers = λ e. decided (simulated (ltsOf first) (ltsOf second)) _ (relates-iff e) (when-kept (compareRules first second) _ _ is e);
+    refuses = λ r e. when-broken (bothRules first second) _ _ is e;
+    answers = λ e. decided (simulated (ltsOf first) (ltsOf second)) _ (relates-iff e) (when-kept (bothRules first second) _ _ is e);
     bound = bounded;
   }

@@ -1,18 +1,15 @@
 -- The call compare: its reply (document 01, "Hand play and comparison" and the table of refusals), and what is promised of it.
-use Prim.Native.Nat.{ℕ, _+_, _*_, _-_, _≤_}
+use Prim.Native.Nat.{ℕ, _*_, _-_, _≤_}
 use mathlib.Core.Path.{_≡_}
-use mathlib.Core.Bool.{Bool, cond, _&&_}
-use mathlib.Core.List.{List, [], _∷_, _++_}
-use lib.Dec.{T, leb}
+use mathlib.Core.Bool.{cond}
+use mathlib.Core.List.{List, [], _∷_}
+use lib.Dec.{T}
 use Rattle.lts.specs.System.{Rel, Lts, isSimulation, within, terminationPreorder}
 use Rattle.lts.specs.Union.{disjointUnion, comparison, simulated}
 use Rattle.lts.specs.declared.Refusal.{Refusal}
-use Rattle.lts.specs.declared.Refusal.the-variants.{TooLarge}
-use Rattle.lts.specs.Rule.{Rule, _otherwise_, Nothing, First, broken, checked, Reply, refused, given, Decides}
-use Rattle.encoding.specs.declared.Header.{Header}
-use Rattle.encoding.specs.Records.{headerOf}
-use Rattle.encoding.specs.Encoding.{sheetRules}
+use Rattle.lts.specs.Rule.{Nothing, First, broken, checked, Reply, refused, given, Decides}
 use Rattle.encoding.specs.Denotation.{ltsOf}
+use Rattle.inputs.specs.Both.{bothRules}
 use Rattle.comparison.specs.declared.Compared.{Compared}
 use Rattle.comparison.specs.declared.Compared.the-variants.{Yes, No, Refused}
 
@@ -22,20 +19,12 @@ compareReply (Yes steps) = given (1 ∷ steps ∷ [])
 compareReply (No steps) = given (0 ∷ steps ∷ [])
 compareReply (Refused r) = refused r
 
--- the joined flow has at most 256 states and 1,024 transitions
-unfoldable pub fits : Header → Header → Bool
-fits h g = leb (h .states + g .states) 256 && leb (h .transitions + g .transitions) 1024
-
--- the first sheet (1 to 6), then the second, then the joined flow (7)
-unfoldable pub compareRules : List ℕ → List ℕ → List Rule
-compareRules first second = sheetRules first ++ sheetRules second ++ fits (headerOf first) (headerOf second) otherwise TooLarge ∷ []
-
 -- yes exactly if state 0 of the first is kept with state 0 of the second, and the turns
 unfoldable pub compareCall : List ℕ → List ℕ → Reply
 compareCall first second =
     let L = ltsOf first in
     let M = ltsOf second in
-    checked (compareRules first second) refused (given (cond (simulated L M) 1 0 ∷ comparison L M .steps ∷ []))
+    checked (bothRules first second) refused (given (cond (simulated L M) 1 0 ∷ comparison L M .steps ∷ []))
 
 -- S is a simulation of the joined flow inside its end start, and relates state 0 of L to state 0 of M
 pub record Relates (L M : Lts) (S : Rel) : Type 0 where
@@ -46,9 +35,9 @@ pub record Relates (L M : Lts) (S : Rel) : Type 0 where
 -- What is promised of the reply.
 pub record ComparePromise (first second : List ℕ) (reply : Reply) : Type 0 where
   -- the refusal of the first broken rule
-  pub refuses : (r : Refusal) → broken (compareRules first second) ≡ First r → reply ≡ refused r
+  pub refuses : (r : Refusal) → broken (bothRules first second) ≡ First r → reply ≡ refused r
   -- otherwise yes exactly if there is such a simulation, with the turns of the joined flow's run, at most n * (n - 1) of its n states
-  pub answers : broken (compareRules first second) ≡ Nothing
+  pub answers : broken (bothRules first second) ≡ Nothing
       → Decides reply ((S : Rel) × Relates (ltsOf first) (ltsOf second) S) (comparison (ltsOf first) (ltsOf second) .steps ∷ [])
-  pub bound : broken (compareRules first second) ≡ Nothing
+  pub bound : broken (bothRules first second) ≡ Nothing
       → let n = disjointUnion (ltsOf first) (ltsOf second) .states in comparison (ltsOf first) (ltsOf second) .steps ≤ n * (n - 1)

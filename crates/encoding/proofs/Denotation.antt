@@ -5,7 +5,7 @@ use mathlib.Core.Bool.{Bool, true, false, cond, _&&_, false≢true, and-false, a
 use mathlib.Core.List.{List, [], _∷_, map}
 use native.Mathlib.Omega.{arith}
 use native.Mathlib.Decide.{ℕ-discrete}
-use borrow.Author.Tests.{eq-eqb, ne-eqb, eqb-true, lt-ltb, ltb-true, leb-true}
+use borrow.Author.Tests.{eq-eqb, ne-eqb, eqb-true, lt-ltb, le-ltb, ltb-true, leb-true}
 use lib.Dec.{T, ltb, eqb}
 use Rattle.lts.specs.System.{WellFormed}
 use Rattle.encoding.specs.declared.Header.{Header}
@@ -13,7 +13,7 @@ use Rattle.encoding.specs.Records.{headerOf, stateRecord, transitionReco
 use Rattle.encoding.specs.Encoding.{stateFits, statesFit, chain, member, successor}
 use Rattle.encoding.specs.Checked.{ReadableAs}
 use Rattle.encoding.specs.Denotation.{any, ltsOf}
-use Rattle.lts.proofs.Below.{all-at}
+use Rattle.lts.proofs.Below.{T-true, all-at}
 use Rattle.lts.proofs.Lists.{Every}
 use Rattle.encoding.proofs.Chains.{transition-known, chain-all}
 
@@ -45,6 +45,10 @@ module _ (s : List ℕ) (h : Header) (e : h ≡ headerOf s) where
   pub lts-terminating : (p : ℕ) → ltsOf s .terminating p ≡ (ltb p (h .states) && eqb (stateRecord s h p .mark) 1)
   unfolding ltsOf
   lts-terminating p = rw e
+
+  -- no number from n on is terminating
+  pub lts-ends : (p : ℕ) → ltsOf s .states ≤ p → ltsOf s .terminating p ≡ false
+  lts-ends p l = let z = le-ltb p (h .states) (omega (arith, l, lts-states)) in rw (lts-terminating p, z)
 
   pub lts-transition : (p a t : ℕ) → ltsOf s .transition p a t
       ≡ (ltb p (h .states) && any (λ j. eqb (transitionRecord s h j .action) a && eqb (transitionRecord s h j .target) t) (chain s h p))
@@ -102,14 +106,10 @@ sound s h g p a t e =
     record { source = l; low = omega (arith, m, ya); high = omega (arith, m, ya); target = omega (arith, m, yt) })
     (q .1)
 
-pub true-of : (b : Bool) → T b → b ≡ true
-true-of true t = refl
-true-of false t = absurd t
-
 -- the Lts of a readable encoding is well-formed
 pub well-formed : (s : List ℕ) (h : Header) → ReadableAs s h → WellFormed (ltsOf s)
 well-formed s h g = record {
-  source = λ p a t x. let k = sound s h g p a t (true-of _ x) in rw (lts-states s h (g .header)) (k .source);
-  action = λ p a t x. let k = sound s h g p a t (true-of _ x) in rw (lts-actions s h (g .header)) (k .low, k .high);
-  target = λ p a t x. let k = sound s h g p a t (true-of _ x) in rw (lts-states s h (g .header)) (k .target);
+  source = λ p a t x. let k = sound s h g p a t (T-true _ x) in rw (lts-states s h (g .header)) (k .source);
+  action = λ p a t x. let k = sound s h g p a t (T-true _ x) in rw (lts-actions s h (g .header)) (k .low, k .high);
+  target = λ p a t x. let k = sound s h g p a t (T-true _ x) in rw (lts-states s h (g .header)) (k .target);
 }

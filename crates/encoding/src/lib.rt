@@ -118,7 +118,7 @@ impl Header {
     }
 
     // The length of the whole encoding.
-    fn length(self) -> usize
+    pub fn length(self) -> usize
         requires { ⌜ Bounds self ⌝ }
         ensures { λ r. ⌜ r ≡ encodingLength self ⌝ }
     {

@@ -49,7 +49,7 @@ module _ (L : Lts) where
 
   name-at : (p : ℕ) → p < L .states → getD (representativesOf L K) p 0 ≡ representative L K p
   unfolding representativesOf
-  name-at p h = getD-listBelow (L .states) (representative L K) p h
+  name-at p h = getD-listBelow 0 (L .states) (representative L K) p h
 
   states-same : statesText (L .states) (relationOf (L .states) (matrixOf (L .states) K)) (representativesOf L K)
       ≡ concatBelow (L .states) (λ p. stateLine (L .states) K (representative L K p) p)

@@ -3,7 +3,7 @@ use mathlib.Core.Path.{_≡_, refl, sym, ap, ap₂, _∙_}
 use mathlib.Core.Bool.{Bool, true, false, cond, not, _&&_, _||_}
 use mathlib.Core.List.{List, [], _∷_, _++_, append-nil}
 use mathlib.Core.Logic.{_⊎_, inl, inr, ⊎-elim}
-use Prim.Native.Nat.{ℕ, zero, suc, _+_, _*_, _≤_, _<_, zero-le, suc-le-suc}
+use Prim.Native.Nat.{ℕ, zero, suc, _+_, _-_, _*_, _≤_, _<_, zero-le, suc-le-suc}
 use native.Mathlib.Nat.{not-suc-le-zero, le-of-suc-le-suc, zero-add, add-zero, add-suc, suc-add, add-assoc, zero-mul, suc-mul, le-refl, eq-or-lt-of-le, zero-lt-suc}
 use native.Mathlib.Numerals.{add-one}
 use native.Mathlib.Omega.{arith}
@@ -157,6 +157,13 @@ unfolding sumBelow
 sum-zero zero f e = refl
 sum-zero (suc k) f e = omega (arith, sum-zero k f (λ i h. e i (omega arith)), e k (le-refl (suc k)))
 
+-- from n on every term is 0
+pub sum-shorter : (n m : ℕ) (f : ℕ → ℕ) → n ≤ m → ((i : ℕ) → n ≤ i → i < m → f i ≡ 0) → sumBelow m f ≡ sumBelow n f
+sum-shorter n m f l e =
+    let whole : m ≡ n + (m - n) = omega arith in
+    ap (λ (k : ℕ). sumBelow k f) whole ∙ sum-add n (m - n) f
+    ∙ ap (λ (x : ℕ). sumBelow n f + x) (sum-zero (m - n) (λ i. f (n + i)) (λ i h. e (n + i) (omega arith) (omega arith))) ∙ add-zero (sumBelow n f)
+
 -- a sum over a rows of b
 pub sum-mul : (a b : ℕ) (f : ℕ → ℕ) → sumBelow (a * b) f ≡ sumBelow a (λ i. sumBelow b (λ j. f (i * b + j)))
 unfolding sumBelow
@@ -222,23 +229,23 @@ lowest-shorter n m f l i h e =
 
 -- ---- a list given by a function
 
-pub length-listBelow : (k : ℕ) (f : ℕ → ℕ) → length (listBelow k f) ≡ k
+pub length-listBelow : {A : Type 0} (k : ℕ) (f : ℕ → A) → length (listBelow k f) ≡ k
 unfolding listBelow
 length-listBelow zero f = refl
 length-listBelow (suc k) f = ap suc (length-listBelow k (λ i. f (suc i)))
 
-pub getD-listBelow : (k : ℕ) (f : ℕ → ℕ) (i : ℕ) → i < k → getD (listBelow k f) i 0 ≡ f i
+pub getD-listBelow : {A : Type 0} (d : A) (k : ℕ) (f : ℕ → A) (i : ℕ) → i < k → getD (listBelow k f) i d ≡ f i
 unfolding listBelow
-getD-listBelow zero f i h = absurd (not-suc-le-zero h)
-getD-listBelow (suc k) f zero h = refl
-getD-listBelow (suc k) f (suc i) h = getD-listBelow k (λ i. f (suc i)) i (le-of-suc-le-suc h)
+getD-listBelow d zero f i h = absurd (not-suc-le-zero h)
+getD-listBelow d (suc k) f zero h = refl
+getD-listBelow d (suc k) f (suc i) h = getD-listBelow d k (λ i. f (suc i)) i (le-of-suc-le-suc h)
 
 pub list-ext : (k : ℕ) (f : ℕ → ℕ) (l : List ℕ) → length l ≡ k → ((i : ℕ) → i < k → getD l i 0 ≡ f i) → l ≡ listBelow k f
 list-ext k f l e same =
-    ext-getD 0 l (listBelow k f) (e ∙ sym (length-listBelow k f)) (λ i h. same i (omega (arith, e, h)) ∙ sym (getD-listBelow k f i (omega (arith, e, h))))
+    ext-getD 0 l (listBelow k f) (e ∙ sym (length-listBelow k f)) (λ i h. same i (omega (arith, e, h)) ∙ sym (getD-listBelow 0 k f i (omega (arith, e, h))))
 
 pub listBelow-cong : (k : ℕ) (f g : ℕ → ℕ) → ((i : ℕ) → i < k → f i ≡ g i) → listBelow k f ≡ listBelow k g
-listBelow-cong k f g same = list-ext k g (listBelow k f) (length-listBelow k f) (λ i h. getD-listBelow k f i h ∙ same i h)
+listBelow-cong k f g same = list-ext k g (listBelow k f) (length-listBelow k f) (λ i h. getD-listBelow 0 k f i h ∙ same i h)
 
 pub listBelow-add : (a b : ℕ) (f : ℕ → ℕ) → listBelow (a + b) f ≡ listBelow a f ++ listBelow b (λ i. f (a + i))
 unfolding listBelow

@@ -1,11 +1,10 @@
 -- The laws of `specs/Bounded.antt` and of Boolean tests.
-use Prim.Native.Nat.{ℕ, zero, suc, _≤_, _<_, suc-le-suc}
-use native.Mathlib.Nat.{le-suc-iff, suc-inj, not-suc-le-zero, le-of-suc-le-suc, lt-suc-self, le-step, zero-lt-suc}
+use Prim.Native.Nat.{ℕ, zero, suc, _≤_, _<_}
+use native.Mathlib.Nat.{le-suc-iff, suc-inj, not-suc-le-zero, lt-suc-self, le-step}
 use mathlib.Core.Path.{_≡_, refl, sym, subst, fun-ext}
 use mathlib.Core.Logic.{_⊎_, inl, inr, _↔_}
 use mathlib.Core.Bool.{Bool, true, false, not, _&&_, _||_}
-use mathlib.Core.List.{List, []}
-use lib.Dec.{T, ltb, ltb→lt, lt→ltb}
+use lib.Dec.{T, eqb, ltb, eqb-refl, ltb→lt, lt→ltb}
 use Rattle.lts.specs.Bounded.{_⇒_, anyBelow, allBelow, restrict}
 
 pub and-iff : (a b : Bool) → T (a && b) ↔ (T a × T b)
@@ -23,6 +22,9 @@ imp-iff false b = (λ _ t. absurd t, λ _. tt)
 pub dec : (b : Bool) → T b ⊎ (T b → ⊥)
 dec true = inl tt
 dec false = inr (λ t. t)
+
+pub eq→eqb : (m n : ℕ) → m ≡ n → T (eqb m n)
+eq→eqb m n e = subst (λ (x : ℕ). T (eqb m x)) e (eqb-refl m)
 
 -- two tests that pass together are equal
 pub test-ext : (a b : Bool) → (T a → T b) → (T b → T a) → a ≡ b

@@ -2,6 +2,7 @@
 use Prim.Native.Nat.{ℕ, zero, suc, _+_, _*_, _≤_, _<_, zero-le, suc-le-suc}
 use native.Mathlib.Nat.{eq-or-lt-of-le, le-refl, le-trans, le-step, lt-suc-self, not-suc-le-zero, le-of-suc-le-suc, zero-lt-suc, add-le-add}
 use native.Mathlib.Omega.{arith}
+use native.Mathlib.Decide.{ℕ-discrete}
 use mathlib.Core.Path.{_≡_, refl, sym, _∙_, ap, subst, fun-ext}
 use mathlib.Core.Logic.{_⊎_, inl, inr, ⊎-elim}
 use mathlib.Core.Bool.{Bool, true, false, cond, _||_}
@@ -33,6 +34,24 @@ unfolding sumBelow
 sum-most zero c f h = zero-le
 sum-most (suc n) c f h = let t = sum-most n c f (λ i l. h i (le-step l)) in omega (arith, t, h n (lt-suc-self n))
 
+pub sum-two : (n : ℕ) (f g h : ℕ → ℕ) → ((i : ℕ) → i < n → f i ≤ g i + h i) → sumBelow n f ≤ sumBelow n g + sumBelow n h
+unfolding sumBelow
+sum-two zero f g h e = zero-le
+sum-two (suc n) f g h e = omega (arith, sum-two n f g h (λ i l. e i (le-step l)), e n (lt-suc-self n))
+
+-- no term but that of x is above 0
+pub sum-single : (n x c : ℕ) (f : ℕ → ℕ) → f x ≤ c → ((i : ℕ) → (i ≡ x → ⊥) → f i ≡ 0) → sumBelow n f ≤ c
+unfolding sumBelow
+sum-single zero x c f h e = zero-le
+sum-single (suc n) x c f h e = go (ℕ-discrete n x) (sum-single n x c f h e)
+  where
+    go : Dec (n ≡ x) → sumBelow n f ≤ c → sumBelow n f + f n ≤ c
+    go (yes d) ih =
+        let z = sum-most n 0 f (λ i l. let w = e i (λ q. omega arith) in omega (arith, w)) in
+        let u : f n ≤ c = rw d h in
+        omega (arith, z, u)
+    go (no d) ih = omega (arith, ih, e n d)
+
 pub sum-least : (n : ℕ) (f : ℕ → ℕ) → ((i : ℕ) → i < n → 1 ≤ f i) → n ≤ sumBelow n f
 unfolding sumBelow
 sum-least zero f h = zero-le
@@ -57,9 +76,13 @@ one-lt true b f t = absurd (f tt)
 one-lt false true f t = le-refl 1
 one-lt false false f t = absurd t
 
-one-most : (a : Bool) → cond a 1 0 ≤ 1
+pub one-most : (a : Bool) → cond a 1 0 ≤ 1
 one-most true = le-refl 1
 one-most false = zero-le
+
+pub one-or : (a b : Bool) → cond (a || b) 1 0 ≤ cond a 1 0 + cond b 1 0
+one-or true b = omega arith
+one-or false b = omega arith
 
 one-least : (a : Bool) → T a → 1 ≤ cond a 1 0
 one-least true t = le-refl 1

@@ -16,3 +16,4 @@ pub mod Rule
 pub mod Below
 pub mod Lists
 pub mod Transitions
+pub mod Mapped

@@ -9,10 +9,11 @@ use native.Mathlib.Nat.{not-suc-le-zero, le-refl}
 use native.Mathlib.Numerals.{add-one}
 use native.Mathlib.Decide.{decLt}
 use lib.ListN.{length, getD, length-map}
-use Rattle.lts.specs.Bounded.{passing, concatBelow}
+use Rattle.lts.specs.Bounded.{sumBelow, countBelow, passing, concatBelow}
 use Rattle.lts.specs.System.{Lts}
-use Rattle.lts.specs.Transitions.{Transition, transitionsTo, transitionsBy, transitionsOf, transitionsBelow}
-use Rattle.lts.proofs.Lists.{Every, every-at, every-more, every-map, passing-keeps, passing-more, passing-room, passing-place, concat-length, concat-grows, concat-at, concat-room, concat-keeps}
+use Rattle.lts.specs.Transitions.{Transition, transitionsTo, transitionsBy, transitionsOf, transitionsBelow, transitions}
+use Rattle.lts.proofs.Count.{sum-cong, length-concat}
+use Rattle.lts.proofs.Lists.{Every, every-at, every-more, every-map, passing-keeps, passing-more, passing-room, passing-place, concat-length, concat-grows, concat-at, concat-room, concat-keeps, length-passing}
 
 -- number i of a list of transitions
 unfoldable pub nth : List Transition → ℕ → Transition
@@ -190,3 +191,15 @@ module _ (p a : ℕ) where
   pub to-length : (l : List ℕ) → length (transitionsTo p a l) ≡ length l
   unfolding transitionsTo
   to-length l = length-map l _
+
+-- ## How many they are
+module _ (L : Lts) where
+  pub of-sum : (p : ℕ) → length (transitionsOf L p) ≡ sumBelow (L .actions) (λ a. countBelow (L .states) (L .transition p (suc a)))
+  unfolding transitionsOf transitionsBy
+  of-sum p =
+      length-concat (L .actions) _
+      ∙ sum-cong (L .actions) _ _ (λ a. to-length p (suc a) _ ∙ length-passing (L .states) (L .transition p (suc a)))
+
+  pub all-sum : length (transitions L) ≡ sumBelow (L .states) (λ p. length (transitionsOf L p))
+  unfolding transitions transitionsBelow
+  all-sum = length-concat (L .states) _

@@ -9,3 +9,4 @@ pub mod Refusal
 pub mod Rule
 pub mod Demand
 pub mod Transitions
+pub mod Mapped

@@ -2,7 +2,7 @@
 use Prim.Native.Nat.{ℕ}
 use mathlib.Core.Bool.{true, false, false≢true}
 use mathlib.Core.List.{List, [], _∷_, head-eq-of-cons-eq}
-use mathlib.Core.Path.{_≡_, refl, sym, ap, _∙_}
+use mathlib.Core.Path.{_≡_, refl, sym, ap, _∙_, subst}
 use native.Mathlib.Omega.{arith}
 use lib.ListN.{length, replicate}
 use Rattle.lts.specs.Bounded.{allBelow, passing, concatBelow, listBelow}
@@ -16,9 +16,11 @@ use Rattle.lts.specs.Rule.{Nothing, broken, checked, Reply, refused as Unreadab
 use Rattle.lts.proofs.Rule.{numbered}
 use Rattle.encoding.specs.Denotation.{any, ltsOf}
 use Rattle.lts.specs.Transitions.{Transition, transitionsTo, transitionsBy, transitionsOf, transitionsBelow, transitions}
-use Rattle.normal_form.specs.Normal.{firstIndex, nextIndex, normalHeader, normalState, normalTransition, statesBytes, transitionsBytes, normal}
+use Rattle.normal_form.specs.Normal.{firstIndex, nextIndex, normalState, normalTransition, statesBytes, transitionsBytes, normal}
 use Rattle.normal_form.specs.NormalForm.{before, inOrder, IsNormal, NormalForm}
 use Rattle.normal_form.specs.Normalise.{normaliseRules, NormalisePromise}
+use Rattle.encoding.proofs.Reader.{readable-of}
+use Rattle.normal_form.proofs.Encodable.{sheet-header, sheet-encodable}
 use Rattle.normal_form.proofs.Laws.{normal-form}
 use Rattle.encoding.proofs.Sheets.{F1, F2, F3, F3-turned, F4, F7, F8, F9, endless, lone, by-action, by-target, chain-turned}
 
@@ -43,7 +45,7 @@ limits = (refl, refl, refl, refl, refl, refl)
 -- ## The normal form
 normals : (normal (ltsOf F3) ≡ F3) × (normal (ltsOf F3-turned) ≡ F3) × (normal (ltsOf by-action) ≡ by-action)
     × (normal (ltsOf by-target) ≡ by-action) × (normal (ltsOf chain-turned) ≡ by-action)
-unfolding numberAt headerOf stateRecordAt transitionRecordAt stateRecord transitionRecord walk chain any ltsOf passing concatBelow transitionsTo transitionsBy transitionsOf transitionsBelow transitions two headerBytes stateBytes transitionBytes firstIndex nextIndex normalHeader normalState normalTransition statesBytes transitionsBytes normal
+unfolding numberAt headerOf stateRecordAt transitionRecordAt stateRecord transitionRecord walk chain any ltsOf passing concatBelow transitionsTo transitionsBy transitionsOf transitionsBelow transitions two headerBytes stateBytes transitionBytes firstIndex nextIndex normalState normalTransition statesBytes transitionsBytes normal
 normals = (refl, refl, refl, refl, refl)
 
 -- in normal form, and not: by `ordered` the one, by `consecutive` the others
@@ -59,12 +61,14 @@ unfolding numberAt stateRecordAt transitionRecordAt stateRecord transitionRecord
 not-normal = (λ n. false≢true (n .ordered), λ n. turned (n .consecutive), λ n. turned (n .consecutive))
 
 -- so that records by target, then action, are refused as a normal form, though they are read and denote the same Lts
-same-lts : ltsOf by-target ≡ ltsOf by-action
-same-lts = sym (normal-form (reads .11) .same) ∙ ap ltsOf (normals .3 ∙ sym (normals .2)) ∙ normal-form (reads .10) .same
+form : (s : List ℕ) {h : Header} → readEncoding s ≡ Readable h → NormalForm (ltsOf s) (normal (ltsOf s))
+form s e = normal-form (ltsOf s) (sheet-encodable (readable-of e))
 
-refused : NormalForm by-action by-target → ⊥
-unfolding numberAt headerOf
-refused f = not-normal .0 (f .normal)
+same-lts : ltsOf by-target ≡ ltsOf by-action
+same-lts = sym (form by-target (reads .11) .same) ∙ ap ltsOf (normals .3 ∙ sym (normals .2)) ∙ form by-action (reads .10) .same
+
+refused : NormalForm (ltsOf by-action) by-target → ⊥
+refused f = not-normal .0 (subst (IsNormal by-target) (sheet-header (readable-of (reads .10))) (f .normal))
 
 -- ## Wrong outcomes that the promise refuses
 blank : List ℕ
@@ -76,14 +80,14 @@ rules-kept = refl
 
 -- records in another order; nothing written; a refusal of what keeps the rules
 not-by-target : (reply : Reply) → NormalisePromise by-action blank reply by-target → ⊥
-not-by-target reply p = refused (p .answers rules-kept .1)
+not-by-target reply p = refused (p .answers rules-kept .3)
 
 blank-refused : readEncoding blank ≡ Refused Range
 unfolding blank numberAt headerOf inRange headedRules sheetRules broken checked readEncoding
 blank-refused = refl
 
 not-nothing : (reply : Reply) → NormalisePromise by-action blank reply blank → ⊥
-not-nothing reply p = let e = sym blank-refused ∙ p .answers rules-kept .1 .reads in let z : _≡_ {A = ℕ} 0 1 = cc in omega (arith, z)
+not-nothing reply p = let e = sym blank-refused ∙ p .answers rules-kept .3 .reads in let z : _≡_ {A = ℕ} 0 1 = cc in omega (arith, z)
 
 not-refused : (r : Refusal) (out : List ℕ) → NormalisePromise by-action blank (Unreadable r) out → ⊥
 not-refused r out p = numbered r (sym (ap (λ (x : Reply). x .refusal) (p .answers rules-kept .0)))

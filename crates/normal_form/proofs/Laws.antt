@@ -1,8 +1,10 @@
 -- What `normal` writes is the normal form, the only one; and the promise of normalise.
 use Prim.Native.Nat.{ℕ}
-use mathlib.Core.Path.{_≡_, refl, sym, ap, _∙_}
+use mathlib.Core.Path.{_≡_, refl, sym, ap, _∙_, subst}
 use mathlib.Core.Logic.{_↔_}
 use mathlib.Core.List.{List, []}
+use lib.ListN.{length}
+use Rattle.lts.specs.System.{Lts}
 use Rattle.lts.specs.declared.Refusal.{Refusal}
 use Rattle.lts.specs.Rule.{Nothing, First, broken, Reply, refused, given}
 use Rattle.lts.proofs.Rule.{when-broken, when-kept, both-kept}
@@ -11,12 +13,13 @@ use Rattle.encoding.specs.declared.Reading.the-variants.{Readable}
 use Rattle.encoding.specs.Records.{headerOf}
 use Rattle.encoding.specs.Encoding.{sheetRules, readEncoding}
 use Rattle.encoding.specs.Denotation.{ltsOf}
-use Rattle.normal_form.specs.Normal.{normal}
+use Rattle.normal_form.specs.Normal.{normalHeader, normal}
 use Rattle.encoding.specs.Checked.{ReadableAs}
-use Rattle.normal_form.specs.NormalForm.{IsNormal, IsBytes, NormalForm}
+use Rattle.normal_form.specs.NormalForm.{IsNormal, IsBytes, Encodable, NormalForm}
 use Rattle.normal_form.specs.Normalise.{NormaliseOutcome, normaliseRules, normaliseCall, NormalisePromise}
 use Rattle.encoding.proofs.Reader.{sheet-passed, readable-of, reads}
-use Rattle.normal_form.proofs.NormalReads.{normal-length}
+use Rattle.normal_form.proofs.Encodable.{sheet-header, sheet-length, sheet-encodable}
+use Rattle.normal_form.proofs.NormalReads.{normal-header}
 use Rattle.normal_form.proofs.NormalSame.{normal-readable, same}
 use Rattle.normal_form.proofs.NormalOrder.{normal-is, normal-bytes}
 use Rattle.normal_form.proofs.NormalOnly.{only-one}
@@ -24,24 +27,29 @@ use Rattle.normal_form.proofs.NormalOnly.{only-one}
 -- what is in normal form is what `normal` writes
 is-normal-of : (s : List ℕ) (h : Header) → IsBytes s → ReadableAs s h → IsNormal s h → s ≡ normal (ltsOf s)
 is-normal-of s h b g n =
-    only-one s (normal (ltsOf s)) h g (normal-readable s h g) (sym (same s h g)) n (normal-is s h g) b (normal-bytes s h g)
+    let L = ltsOf s in
+    let w = sheet-encodable g in
+    let to : normalHeader L ≡ h = sheet-header g in
+    only-one s (normal L) h g (subst (ReadableAs (normal L)) to (normal-readable L w)) (sym (same L w)) n
+    (subst (IsNormal (normal L)) to (normal-is L w)) b (normal-bytes L w)
 
 -- `normal` writes the normal form
-pub normal-form : {s : List ℕ} {h : Header} → readEncoding s ≡ Readable h → NormalForm s (normal (ltsOf s))
-normal-form {s} {h} e =
-    let g = readable-of e in
-    record {
-      bytes = normal-bytes s h g;
-      long = normal-length s h g;
-      reads = rw (← g .header) (reads (normal (ltsOf s)) h (normal-readable s h g));
-      same = same s h g;
-      normal = rw (← g .header) (normal-is s h g);
-      only = λ u k b r n q. is-normal-of u k b (readable-of r) n ∙ ap normal q;
-    }
+pub normal-form : (L : Lts) → Encodable L → NormalForm L (normal L)
+normal-form L w = record {
+  bytes = normal-bytes L w;
+  reads = reads (normal L) (normalHeader L) (normal-readable L w);
+  same = same L w;
+  normal = normal-is L w;
+  only = λ u k b r n q. is-normal-of u k b (readable-of r) n ∙ ap normal q;
+}
 
 -- a readable sequence of bytes is in normal form exactly if it is what `normal` writes of its Lts
 pub normal-iff : (s : List ℕ) (h : Header) → readEncoding s ≡ Readable h → IsBytes s → IsNormal s h ↔ (s ≡ normal (ltsOf s))
-normal-iff s h e b = let g = readable-of e in (is-normal-of s h b g, λ q. rw (sym q) at (normal-is s h g))
+normal-iff s h e b =
+    let g = readable-of e in (
+      is-normal-of s h b g,
+      λ q. rw (sym q) at (subst (IsNormal (normal (ltsOf s))) (sheet-header g) (normal-is (ltsOf s) (sheet-encodable g))),
+    )
 
 -- ## What is promised of normalise
 module _ (s out₀ : List ℕ) (reply : Reply) (out : List ℕ) (is : normaliseCall s out₀ ≡ record { reply = reply; out = out }) where
@@ -59,11 +67,19 @@ module _ (s out₀ : List ℕ) (reply : Reply) (out : List ℕ) (is : normaliseC
   unfolding normaliseRules
   read-kept e = sym (sheet-passed s refl (both-kept (sheetRules s) _ e .0))
 
+  out-is : broken (normaliseRules s out₀) ≡ Nothing → out ≡ normal (ltsOf s)
+  out-is e = ap (λ (o : NormaliseOutcome). o .out) (kept-is e)
+
+  encodable : broken (normaliseRules s out₀) ≡ Nothing → Encodable (ltsOf s)
+  encodable e = sheet-encodable (readable-of (read-kept e))
+
   pub normalise-promised : NormalisePromise s out₀ reply out
   normalise-promised = record {
     refuses = λ r e. (ap (λ (o : NormaliseOutcome). o .reply) (broken-is e), ap (λ (o : NormaliseOutcome). o .out) (broken-is e));
     answers = λ e. (
       ap (λ (o : NormaliseOutcome). o .reply) (kept-is e),
-      rw (ap (λ (o : NormaliseOutcome). o .out) (kept-is e)) (normal-form (read-kept e)),
+      ap length (out-is e) ∙ sheet-length (readable-of (read-kept e)),
+      ap headerOf (out-is e) ∙ normal-header (ltsOf s) (encodable e) ∙ sheet-header (readable-of (read-kept e)),
+      rw (out-is e) (normal-form (ltsOf s) (encodable e)),
     );
   }

@@ -1,4 +1,5 @@
 pub mod Bytes
+pub mod Encodable
 pub mod Tables
 pub mod Written
 pub mod NormalReads

@@ -13,19 +13,18 @@ use lib.Dec.{eqb, leb, ltb}
 use Rattle.encoding.specs.declared.Header.{Header}
 use Rattle.encoding.specs.Records.{stateRecord, transitionRecord}
 use Rattle.encoding.specs.Encoding.{walk, chain, reached, member, distinct, statesFit, stateFits, transitionsFit, transitionFits, chainsFit, successor}
-use Rattle.encoding.specs.Checked.{ReadableAs, Recorded}
+use Rattle.encoding.specs.Checked.{Recorded}
 use Rattle.lts.specs.System.{Lts}
-use Rattle.encoding.specs.Denotation.{ltsOf}
-use Rattle.lts.specs.Transitions.{Transition, transitionsOf, transitionsBelow}
-use Rattle.normal_form.specs.Normal.{firstIndex, nextIndex, normal, normalState, normalTransition}
+use Rattle.lts.specs.Transitions.{Transition, transitionsOf, transitionsBelow, transitions}
+use Rattle.normal_form.specs.Normal.{firstIndex, nextIndex, normalHeader, normal, normalState, normalTransition}
+use Rattle.normal_form.specs.NormalForm.{Encodable}
 use Rattle.lts.specs.Bounded.{concatBelow}
 use Rattle.lts.proofs.Below.{all-of}
 use Rattle.encoding.proofs.Chains.{walk-end}
-use Rattle.encoding.proofs.Counting.{all-count}
-use Rattle.encoding.proofs.Denotation.{lts-states, lts-actions}
 use Rattle.lts.proofs.Transitions.{nth, every-nth, up-none, up-length, up-grows, Valid, of-keeps, Sourced, all-keep, state-nth, later}
 use Rattle.transitions.proofs.Codes.{code}
-use Rattle.normal_form.proofs.NormalReads.{next-small, normal-state, normal-transition, normal-length}
+use Rattle.normal_form.proofs.Bytes.{normal-length}
+use Rattle.normal_form.proofs.NormalReads.{next-small, normal-state, normal-transition}
 
 pub drop-nth : (l : List Transition) (i : ℕ) → i < length l → drop i l ≡ nth l i ∷ drop (suc i) l
 unfolding nth
@@ -93,12 +92,12 @@ unfolding upto distinct
 upto-distinct j zero = refl
 upto-distinct j (suc c) = rw (upto-out j (suc j) c (le-refl _), upto-distinct (suc j) c)
 
-module _ (s : List ℕ) (h : Header) (g : ReadableAs s h) where
-  unfoldable pub L : Lts
-  L = ltsOf s
+module _ (L : Lts) (w : Encodable L) where
+  abbrev h : Header
+  h = normalHeader L
 
-  unfoldable pub all : List Transition
-  all = transitionsBelow L (h .states)
+  abbrev all : List Transition
+  all = transitions L
 
   unfoldable pub at : ℕ → ℕ
   at p = length (transitionsBelow L p)
@@ -107,14 +106,10 @@ module _ (s : List ℕ) (h : Header) (g : ReadableAs s h) where
   unfolding at
   at-none = rw up-none
 
-  pub count : length all ≡ h .transitions
-  unfolding all L
-  count = all-count s h g
-
-  pub normal-at : (i : ℕ) → i < h .transitions → transitionRecord (normal L) h (suc i)
+  normal-at : (i : ℕ) → i < length all → transitionRecord (normal L) h (suc i)
       ≡ record { action = nth all i .action; spare = 0; target = nth all i .target; next = nextIndex (suc i) (nth all i) (drop (suc i) all) }
-  unfolding L all normalTransition
-  normal-at i l = normal-transition s h g i l
+  unfolding normalTransition
+  normal-at i l = normal-transition L w i l
 
   -- ## The next index
   -- state p's transitions end where the next state's begin, and lie among all
@@ -122,19 +117,19 @@ module _ (s : List ℕ) (h : Header) (g : ReadableAs s h) where
   unfolding at
   ends p = up-length L p
 
-  pub inside : (p : ℕ) → p < h .states → at (suc p) ≤ length all
-  unfolding at all
-  inside p l = up-grows L (h .states) (suc p) l
+  pub inside : (p : ℕ) → p < L .states → at (suc p) ≤ length all
+  unfolding at transitions
+  inside p l = up-grows L (L .states) (suc p) l
 
-  source-at : (p c : ℕ) → p < h .states → c < length (transitionsOf L p) → nth all (at p + c) .source ≡ p
-  unfolding at all
-  source-at p c l u = rw (state-nth L (h .states) p c l u) (every-nth (Valid L p) (transitionsOf L p) c (of-keeps L p) u .source)
+  source-at : (p c : ℕ) → p < L .states → c < length (transitionsOf L p) → nth all (at p + c) .source ≡ p
+  unfolding at transitions
+  source-at p c l u = rw (state-nth L (L .states) p c l u) (every-nth (Valid L p) (transitionsOf L p) c (of-keeps L p) u .source)
 
   after : (p i : ℕ) → at (suc p) ≤ i → i < length all → p < nth all i .source
-  unfolding at all
-  after p i l u = later L (h .states) p i l u
+  unfolding at transitions
+  after p i l u = later L (L .states) p i l u
 
-  next-on : (p c : ℕ) → p < h .states → suc c < length (transitionsOf L p)
+  next-on : (p c : ℕ) → p < L .states → suc c < length (transitionsOf L p)
       → nextIndex (suc (at p + c)) (nth all (at p + c)) (drop (suc (at p + c)) all) ≡ suc (at p + c) + 1
   unfolding nextIndex
   next-on p c l u =
@@ -145,7 +140,7 @@ module _ (s : List ℕ) (h : Header) (g : ReadableAs s h) where
       let k = inside p l in
       rw (drop-nth all (suc (at p + c)) (omega arith), e, q, r, eq-eqb p p refl)
 
-  next-off : (p c : ℕ) → p < h .states → suc c ≡ length (transitionsOf L p)
+  next-off : (p c : ℕ) → p < L .states → suc c ≡ length (transitionsOf L p)
       → nextIndex (suc (at p + c)) (nth all (at p + c)) (drop (suc (at p + c)) all) ≡ 0
   unfolding nextIndex
   next-off p c l u = go (decLt (suc (at p + c)) (length all))
@@ -159,15 +154,14 @@ module _ (s : List ℕ) (h : Header) (g : ReadableAs s h) where
       go (no k) = rw (drop-of-length-le all {i = suc (at p + c)} (omega (arith, k)))
 
   -- ## The chain of a state
-  next-of : (p i : ℕ) → p < h .states → i < length (transitionsOf L p)
+  next-of : (p i : ℕ) → p < L .states → i < length (transitionsOf L p)
       → transitionRecord (normal L) h (suc (at p + i)) .next ≡ nextIndex (suc (at p + i)) (nth all (at p + i)) (drop (suc (at p + i)) all)
   next-of p i l u =
       let n = ends p in
       let k = inside p l in
-      let c = count in
       ap (λ r. r .next) (normal-at (at p + i) (omega arith))
 
-  walk-on : (p : ℕ) → p < h .states → (c fuel i : ℕ) → suc c ≤ fuel → i + suc c ≡ length (transitionsOf L p)
+  walk-on : (p : ℕ) → p < L .states → (c fuel i : ℕ) → suc c ≤ fuel → i + suc c ≡ length (transitionsOf L p)
       → walk (normal L) h fuel (suc (at p + i)) ≡ upto (suc (at p + i)) (suc c)
   unfolding walk upto
   walk-on p l c zero i u e = absurd (not-suc-le-zero u)
@@ -179,95 +173,89 @@ module _ (s : List ℕ) (h : Header) (g : ReadableAs s h) where
       ap (λ r. suc (at p + i) ∷ r)
       (rw (next-of p i l (omega arith), next-on p i l (omega arith), to, from) (walk-on p l c fuel (suc i) (omega arith) (omega arith)))
 
-  first-is : (p : ℕ) → p < h .states → stateRecord (normal L) h p .first ≡ firstIndex (at p) (at (suc p))
-  unfolding L at normalState
-  first-is p l = ap (λ r. r .first) (normal-state s h g p l)
+  first-is : (p : ℕ) → p < L .states → stateRecord (normal L) h p .first ≡ firstIndex (at p) (at (suc p))
+  unfolding at normalState
+  first-is p l = ap (λ r. r .first) (normal-state L w p l)
 
-  pub chain-on : (p : ℕ) → p < h .states → chain (normal L) h p ≡ upto (suc (at p)) (length (transitionsOf L p))
+  pub chain-on : (p : ℕ) → p < L .states → chain (normal L) h p ≡ upto (suc (at p)) (length (transitionsOf L p))
   unfolding chain
   chain-on p l = rw (first-is p l) (go (length (transitionsOf L p)) refl)
     where
-      go : (c : ℕ) → length (transitionsOf L p) ≡ c → walk (normal L) h (suc (h .transitions)) (firstIndex (at p) (at (suc p))) ≡ upto (suc (at p)) (length (transitionsOf L p))
+      go : (c : ℕ) → length (transitionsOf L p) ≡ c
+          → walk (normal L) h (suc (length all)) (firstIndex (at p) (at (suc p))) ≡ upto (suc (at p)) (length (transitionsOf L p))
       go zero e = let n = ends p in rw (first-none (at p) (at (suc p)) (omega arith), e) (walk-end (normal L) h _ ∙ sym (upto-none _))
       go (suc c) e =
           let n = ends p in
           let k = inside p l in
-          let m = count in
-          rw (first-some (at p) (at (suc p)) (omega arith), e) (rw add-zero at (walk-on p l c (suc (h .transitions)) 0 (omega arith) (omega arith)))
+          rw (first-some (at p) (at (suc p)) (omega arith), e) (rw add-zero at (walk-on p l c (suc (length all)) 0 (omega arith) (omega arith)))
 
-  pub reached-on : (p : ℕ) → p ≤ h .states → reached (normal L) h p ≡ upto 1 (at p)
+  pub reached-on : (p : ℕ) → p ≤ L .states → reached (normal L) h p ≡ upto 1 (at p)
   unfolding reached concatBelow
   reached-on zero l = sym (rw at-none (upto-none 1))
   reached-on (suc p) l = rw (reached-on p (omega arith), chain-on p l, ends p, upto-add, one-add)
 
   -- ## Rules 1 to 5
-  pub state-is : (p : ℕ) → p < h .states → stateRecord (normal L) h p ≡ record { mark = cond (L .terminating p) 1 0; spare = 0; first = firstIndex (at p) (at (suc p)) }
-  unfolding L at normalState
-  state-is p l = normal-state s h g p l
+  pub state-is : (p : ℕ) → p < L .states
+      → stateRecord (normal L) h p ≡ record { mark = cond (L .terminating p) 1 0; spare = 0; first = firstIndex (at p) (at (suc p)) }
+  unfolding at normalState
+  state-is p l = normal-state L w p l
 
   states-ok : statesFit (normal L) h ≡ true
   unfolding statesFit stateFits
-  states-ok = all-of (h .states) _ (λ p l. rw (state-is p l) (fits p l))
+  states-ok = all-of (L .states) _ (λ p l. rw (state-is p l) (fits p l))
     where
-      fits : (p : ℕ) → p < h .states → (leb (cond (L .terminating p) 1 0) 1 && true && leb (firstIndex (at p) (at (suc p))) (h .transitions)) ≡ true
+      fits : (p : ℕ) → p < L .states → (leb (cond (L .terminating p) 1 0) 1 && true && leb (firstIndex (at p) (at (suc p))) (length all)) ≡ true
       fits p l =
           let n = ends p in
           let k = inside p l in
-          let c = count in
           let q = first-le (at p) (at (suc p)) (omega arith) in
-          rw (le-leb (cond (L .terminating p) 1 0) 1 (mark-le (L .terminating p)), le-leb (firstIndex (at p) (at (suc p))) (h .transitions) (omega arith))
+          rw (le-leb (cond (L .terminating p) 1 0) 1 (mark-le (L .terminating p)), le-leb (firstIndex (at p) (at (suc p))) (length all) (omega arith))
 
   transitions-ok : transitionsFit (normal L) h ≡ true
-  unfolding transitionsFit transitionFits L all
-  transitions-ok = all-of (h .transitions) _ (λ i l. rw (add-one, normal-at i l) (fits i l))
+  unfolding transitionsFit transitionFits transitions
+  transitions-ok = all-of (length all) _ (λ i l. rw (add-one, normal-at i l) (fits i l))
     where
-      fits : (i : ℕ) → i < h .transitions
-          → (leb 1 (nth all i .action) && leb (nth all i .action) (h .actions) && true && ltb (nth all i .target) (h .states) && leb (nextIndex (suc i) (nth all i) (drop (suc i) all)) (h .transitions)) ≡ true
+      fits : (i : ℕ) → i < length all
+          → (leb 1 (nth all i .action) && leb (nth all i .action) (L .actions) && true && ltb (nth all i .target) (L .states)
+          && leb (nextIndex (suc i) (nth all i) (drop (suc i) all)) (length all)) ≡ true
       fits i l =
-          let c = count in
-          let v = every-nth (Sourced L (h .states)) all i (all-keep L (h .states)) (omega arith) .valid in
-          let e = lts-states s h (g .header) in
-          let d = lts-actions s h (g .header) in
+          let v = every-nth (Sourced L (L .states)) all i (all-keep L (L .states)) l .valid in
           let x = next-le all i in
-          let hi = v .high in
-          let to = v .target in
           rw (
             le-leb 1 (nth all i .action) (v .low),
-            le-leb (nth all i .action) (h .actions) (omega (arith, hi, d)),
-            lt-ltb (nth all i .target) (h .states) (omega (arith, to, e)),
-            le-leb (nextIndex (suc i) (nth all i) (drop (suc i) all)) (h .transitions) (omega arith),
+            le-leb (nth all i .action) (L .actions) (v .high),
+            lt-ltb (nth all i .target) (L .states) (v .target),
+            le-leb (nextIndex (suc i) (nth all i) (drop (suc i) all)) (length all) (omega arith),
           )
 
   pub recorded : Recorded (normal L) h
-  unfolding L
   recorded =
       record {
-        sized = record { bounds = g .recorded .sized .bounds; long = normal-length s h g ∙ g .recorded .sized .long };
+        sized = record { bounds = w .bounds; long = normal-length L };
         states = states-ok;
         transitions = transitions-ok;
       }
 
-  pub at-end : at (h .states) ≡ h .transitions
-  unfolding at L
-  at-end = all-count s h g
+  pub at-end : at (L .states) ≡ length all
+  unfolding at transitions
+  at-end = refl
 
   pub chains-ok : chainsFit (normal L) h ≡ true
   unfolding chainsFit
   chains-ok =
-      rw (reached-on (h .states) (le-refl _), at-end, upto-distinct 1 (h .transitions))
-      (all-of (h .transitions) _ (λ i l. upto-in (i + 1) 1 (h .transitions) (omega arith) (omega arith)))
+      rw (reached-on (L .states) (le-refl _), at-end, upto-distinct 1 (length all))
+      (all-of (length all) _ (λ i l. upto-in (i + 1) 1 (length all) (omega arith) (omega arith)))
 
   -- ## Rule 6
-  pub successor-on : (p i : ℕ) → p < h .states → i < length (transitionsOf L p) → successor (normal L) h (suc (at p + i)) ≡ code (nth (transitionsOf L p) i)
-  unfolding successor code at all
+  pub successor-on : (p i : ℕ) → p < L .states → i < length (transitionsOf L p) → successor (normal L) h (suc (at p + i)) ≡ code (nth (transitionsOf L p) i)
+  unfolding successor code at transitions
   successor-on p i l u =
       let n = ends p in
       let k = inside p l in
-      let c = count in
       let m = normal-at (at p + i) (omega arith) in
-      rw (m, state-nth L (h .states) p i l u)
+      rw (m, state-nth L (L .states) p i l u)
 
-  pub successors-on : (p : ℕ) → p < h .states → (c i : ℕ) → i + c ≡ length (transitionsOf L p)
+  pub successors-on : (p : ℕ) → p < L .states → (c i : ℕ) → i + c ≡ length (transitionsOf L p)
       → map (successor (normal L) h) (upto (suc (at p + i)) c) ≡ map code (drop i (transitionsOf L p))
   unfolding upto
   successors-on p l zero i e = rw (drop-of-length-le (transitionsOf L p) {i = i} (omega arith))

@@ -1,27 +1,26 @@
--- What `normal` writes of a readable encoding is in normal form, and a sequence of bytes.
+-- What `normal` writes of a system that a sheet can hold is in normal form, and a sequence of bytes.
 use Prim.Native.Nat.{ℕ, zero, suc, _+_, _<_}
 use mathlib.Core.Path.{_≡_, refl, sym, _∙_}
 use mathlib.Core.List.{List, [], _∷_, _++_}
 use native.Mathlib.Omega.{arith}
 use native.Mathlib.Nat.{le-refl, add-zero, add-suc, suc-add}
 use native.Mathlib.Numerals.{one-add}
+use lib.ListN.{length}
 use Rattle.lts.specs.Bounded.{listBelow}
 use Rattle.encoding.specs.declared.Header.{Header}
 use Rattle.encoding.specs.declared.StateRecord.{StateRecord}
 use Rattle.encoding.specs.declared.TransitionRecord.{TransitionRecord}
 use Rattle.encoding.specs.Records.{two, headerBytes, stateBytes, transitionBytes}
-use Rattle.encoding.specs.Checked.{ReadableAs}
-use Rattle.encoding.specs.Denotation.{ltsOf}
-use Rattle.lts.specs.Transitions.{Transition, transitionsBelow}
-use Rattle.normal_form.specs.Normal.{normalState, normalTransition, statesBytes, transitionsBytes, normal}
-use Rattle.normal_form.specs.NormalForm.{IsNormal, IsBytes}
+use Rattle.lts.specs.System.{Lts}
+use Rattle.lts.specs.Transitions.{Transition, transitions}
+use Rattle.normal_form.specs.Normal.{normalHeader, normalState, normalTransition, statesBytes, transitionsBytes, normal}
+use Rattle.normal_form.specs.NormalForm.{IsNormal, IsBytes, Encodable}
 use Rattle.lts.proofs.Lists.{Every, every-append, every-at, every-more, concat-keeps}
-use Rattle.encoding.proofs.Denotation.{lts-actions}
 use Rattle.lts.proofs.Transitions.{Sourced, all-keep}
 use Rattle.transitions.proofs.Codes.{codes-up}
-use Rattle.normal_form.proofs.Bytes.{mark-small, normal-form}
-use Rattle.normal_form.proofs.NormalChains.{L, upto, reached-on, at-end}
-use Rattle.normal_form.proofs.NormalSame.{few-states, chain-codes, normal-readable}
+use Rattle.normal_form.proofs.Bytes.{mark-small}
+use Rattle.normal_form.proofs.NormalChains.{upto, reached-on, at-end}
+use Rattle.normal_form.proofs.NormalSame.{chain-codes, normal-readable}
 use Rattle.normal_form.proofs.Ordered.{is-normal}
 
 -- ## In normal form
@@ -63,31 +62,28 @@ transitions-small i (x ∷ l) e =
     every-append Small (transitionBytes (normalTransition i x l)) (transitionsBytes (suc i) l)
     (transition-small (normalTransition i x l) (e .0) (omega arith)) (transitions-small (suc i) l (e .1))
 
-module _ (s : List ℕ) (h : Header) (g : ReadableAs s h) where
-  pub normal-is : IsNormal (normal (ltsOf s)) h
-  unfolding L
+module _ (L : Lts) (w : Encodable L) where
+  pub normal-is : IsNormal (normal L) (normalHeader L)
   normal-is =
-      is-normal (normal (ltsOf s)) h (normal-readable s h g)
-      (reached-on s h g (h .states) (le-refl _) ∙ rw (at-end s h g) (upto-list (h .transitions) 1 suc (λ i. sym (one-add i))))
-      (λ p l. rw (chain-codes s h g p l) (codes-up (ltsOf s) (few-states s h g) p))
+      is-normal (normal L) (normalHeader L) (normal-readable L w)
+      (reached-on L w (L .states) (le-refl _) ∙ rw (at-end L w) (upto-list (length (transitions L)) 1 suc (λ i. sym (one-add i))))
+      (λ p l. rw (chain-codes L w p l) (codes-up L (w .bounds .states) p))
 
-  pub normal-bytes : IsBytes (normal (ltsOf s))
-  unfolding statesBytes normalState Small
-  normal-bytes i l = every-at Small 0 (normal (ltsOf s)) i all l
+  pub normal-bytes : IsBytes (normal L)
+  unfolding normal transitions statesBytes normalState Small
+  normal-bytes i l = every-at Small 0 (normal L) i all l
     where
-      actions : Every (λ x. x .action < 256) (transitionsBelow (ltsOf s) (h .states))
+      actions : Every (λ x. x .action < 256) (transitions L)
       actions =
-          every-more (Sourced (ltsOf s) (h .states)) (λ x. x .action < 256) (transitionsBelow (ltsOf s) (h .states))
+          every-more (Sourced L (L .states)) (λ x. x .action < 256) (transitions L)
           (λ x v.
           let a = v .valid .high in
-          let c = lts-actions s h (g .header) in
-          let b = g .recorded .sized .bounds in
-          omega (arith, a, c, b)) (all-keep (ltsOf s) (h .states))
+          let b = w .bounds in
+          omega (arith, a, b)) (all-keep L (L .states))
 
-      all : Every Small (normal (ltsOf s))
+      all : Every Small (normal L)
       all =
-          rw (normal-form s h g)
-          (every-append Small (headerBytes h ++ statesBytes (ltsOf s) (h .states)) (transitionsBytes 1 (transitionsBelow (ltsOf s) (h .states)))
-          (every-append Small (headerBytes h) (statesBytes (ltsOf s) (h .states)) (header-small h)
-          (concat-keeps _ Small (h .states) (λ p u. state-small (normalState (ltsOf s) p) (mark-small (ltsOf s .terminating p)) (omega arith))))
-          (transitions-small 1 (transitionsBelow (ltsOf s) (h .states)) actions))
+          every-append Small (headerBytes (normalHeader L) ++ statesBytes L (L .states)) (transitionsBytes 1 (transitions L))
+          (every-append Small (headerBytes (normalHeader L)) (statesBytes L (L .states)) (header-small (normalHeader L))
+          (concat-keeps _ Small (L .states) (λ p u. state-small (normalState L p) (mark-small (L .terminating p)) (omega arith))))
+          (transitions-small 1 (transitions L) actions)

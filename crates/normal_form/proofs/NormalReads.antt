@@ -1,4 +1,4 @@
--- The normal form of a readable encoding has the encoding's length and header, and its records are read back as they were written.
+-- The header and the records of a normal form are read back as they were written.
 use Prim.Native.Nat.{ℕ, zero, suc, _+_, _*_, _-_, _≤_, _<_, _/_, _%_}
 use mathlib.Core.Path.{_≡_, _∙_}
 use mathlib.Core.Bool.{Bool, true, false, cond}
@@ -14,15 +14,13 @@ use Rattle.encoding.specs.declared.Header.{Header}
 use Rattle.encoding.specs.declared.StateRecord.{StateRecord}
 use Rattle.encoding.specs.declared.TransitionRecord.{TransitionRecord}
 use Rattle.encoding.specs.Records.{numberAt, two, headerOf, headerBytes, stateRecordAt, stateBytes, transitionRecordAt, transitionBytes, stateRecord, transitionRecord}
-use Rattle.encoding.specs.Denotation.{ltsOf}
-use Rattle.lts.specs.Transitions.{Transition, transitionsBelow}
-use Rattle.normal_form.specs.Normal.{firstIndex, nextIndex, normalState, normalTransition, statesBytes, transitionsBytes, normal}
-use Rattle.encoding.specs.Checked.{ReadableAs}
+use Rattle.lts.specs.System.{Lts}
+use Rattle.lts.specs.Transitions.{Transition, transitionsBelow, transitions}
+use Rattle.normal_form.specs.Normal.{firstIndex, nextIndex, normalHeader, normalState, normalTransition, statesBytes, transitionsBytes, normal}
+use Rattle.normal_form.specs.NormalForm.{Encodable}
 use Rattle.lts.proofs.Lists.{concat-at}
-use Rattle.encoding.proofs.Denotation.{lts-states}
 use Rattle.lts.proofs.Transitions.{nth, every-nth, Sourced, all-keep, up-grows}
-use Rattle.encoding.proofs.Counting.{all-count}
-use Rattle.normal_form.proofs.Bytes.{record-length, transitions-length, states-length, header-length, normal-form}
+use Rattle.normal_form.proofs.Bytes.{record-length, states-length, header-length}
 
 -- ## What is written is read back
 back : (x : ℕ) → x < 65536 → x % 256 + 256 * (x / 256 % 256) ≡ x
@@ -80,66 +78,59 @@ transition-byte (x ∷ l) k (suc j) i m u =
     let c : k + suc j ≡ suc k + j = omega arith in
     rw (e, c) (getD-append-add r (transitionsBytes (suc k) l) (6 * j + i) 0 ∙ transition-byte l (suc k) j i (omega arith) u)
 
-module _ (s : List ℕ) (h : Header) (g : ReadableAs s h) where
-  pub normal-length : length (normal (ltsOf s)) ≡ length s
-  normal-length =
-      let p = states-length (ltsOf s) (h .states) in
-      let q = transitions-length 1 (transitionsBelow (ltsOf s) (h .states)) in
-      let c = all-count s h g in
-      let z = g .recorded .sized .long in
-      rw (normal-form s h g, length-append, length-append, header-length) (omega (arith, p, q, c, z))
+module _ (L : Lts) (w : Encodable L) where
+  abbrev h : Header
+  h = normalHeader L
 
-  pub normal-header : headerOf (normal (ltsOf s)) ≡ h
-  normal-header =
-      let b = g .recorded .sized .bounds in
-      rw (normal-form s h g, append-assoc) (header-back h _ (omega arith) (omega arith) (omega arith))
+  abbrev all : List Transition
+  all = transitions L
+
+  pub normal-header : headerOf (normal L) ≡ normalHeader L
+  unfolding normal
+  normal-header = let b = w .bounds in rw append-assoc (header-back h _ (omega arith) (omega arith) (omega arith))
 
   -- ## The records of the normal form
-  state-byte : (p i : ℕ) → p < h .states → i < 4 → getD (normal (ltsOf s)) (6 + 4 * p + i) 0 ≡ getD (stateBytes (normalState (ltsOf s) p)) i 0
-  unfolding statesBytes stateBytes two
+  state-byte : (p i : ℕ) → p < L .states → i < 4 → getD (normal L) (6 + 4 * p + i) 0 ≡ getD (stateBytes (normalState L p)) i 0
+  unfolding normal statesBytes stateBytes two
   state-byte p i l k =
-      let f : ℕ → List ℕ = λ q. stateBytes (normalState (ltsOf s) q) in
-      let z = states-length (ltsOf s) p in
-      let y = states-length (ltsOf s) (h .states) in
+      let f : ℕ → List ℕ = λ q. stateBytes (normalState L q) in
+      let z = states-length L p in
+      let y = states-length L (L .states) in
       let e : 6 + 4 * p + i ≡ length (headerBytes h) + (length (concatBelow p f) + i) = rw header-length (omega arith) in
-      let n = length-append (headerBytes h) (statesBytes (ltsOf s) (h .states)) in
-      let w = header-length h in
-      rw (normal-form s h g, e)
-      (List·getD-append (headerBytes h ++ statesBytes (ltsOf s) (h .states)) _ 0 (length (headerBytes h) + (length (concatBelow p f) + i)) (omega arith)
-      ∙ (getD-append-add (headerBytes h) (statesBytes (ltsOf s) (h .states)) (length (concatBelow p f) + i) 0 ∙ concat-at f 0 (h .states) p i l k))
+      let n = length-append (headerBytes h) (statesBytes L (L .states)) in
+      let m = header-length h in
+      rw e
+      (List·getD-append (headerBytes h ++ statesBytes L (L .states)) _ 0 (length (headerBytes h) + (length (concatBelow p f) + i)) (omega arith)
+      ∙ (getD-append-add (headerBytes h) (statesBytes L (L .states)) (length (concatBelow p f) + i) 0 ∙ concat-at f 0 (L .states) p i l k))
 
-  pub normal-state : (p : ℕ) → p < h .states → stateRecord (normal (ltsOf s)) h p ≡ normalState (ltsOf s) p
-  unfolding stateRecord normalState
+  pub normal-state : (p : ℕ) → p < L .states → stateRecord (normal L) (normalHeader L) p ≡ normalState L p
+  unfolding stateRecord normalState transitions
   normal-state p l =
-      let u = up-grows (ltsOf s) (h .states) p (omega arith) in
-      let c = all-count s h g in
-      let b = g .recorded .sized .bounds in
-      let v = first-small (length (transitionsBelow (ltsOf s) p)) (length (transitionsBelow (ltsOf s) (suc p))) in
-      state-back (normal (ltsOf s)) (6 + 4 * p) (normalState (ltsOf s) p) (omega arith) (λ j k. state-byte p j l k)
+      let u = up-grows L (L .states) p (omega arith) in
+      let b = w .bounds in
+      let v = first-small (length (transitionsBelow L p)) (length (transitionsBelow L (suc p))) in
+      state-back (normal L) (6 + 4 * p) (normalState L p) (omega arith) (λ j k. state-byte p j l k)
 
-  transition-at : (i j : ℕ) → i < h .transitions → j < 6 → getD (normal (ltsOf s)) (6 + 4 * h .states + 6 * i + j) 0
-      ≡ getD (transitionBytes (normalTransition (suc i) (nth (transitionsBelow (ltsOf s) (h .states)) i) (drop (suc i) (transitionsBelow (ltsOf s) (h .states))))) j 0
+  transition-at : (i j : ℕ) → i < length all → j < 6
+      → getD (normal L) (6 + 4 * L .states + 6 * i + j) 0 ≡ getD (transitionBytes (normalTransition (suc i) (nth all i) (drop (suc i) all))) j 0
+  unfolding normal
   transition-at i j l k =
-      let all = transitionsBelow (ltsOf s) (h .states) in
-      let a = headerBytes h ++ statesBytes (ltsOf s) (h .states) in
-      let y = states-length (ltsOf s) (h .states) in
-      let n = length-append (headerBytes h) (statesBytes (ltsOf s) (h .states)) in
-      let w = header-length h in
-      let c = all-count s h g in
-      let e : 6 + 4 * h .states + 6 * i + j ≡ length a + (6 * i + j) = omega arith in
-      rw (normal-form s h g, e)
-      (getD-append-add a (transitionsBytes 1 all) (6 * i + j) 0 ∙ rw one-add at (transition-byte all 1 i j (omega arith) k))
+      let a = headerBytes h ++ statesBytes L (L .states) in
+      let y = states-length L (L .states) in
+      let n = length-append (headerBytes h) (statesBytes L (L .states)) in
+      let m = header-length h in
+      let e : 6 + 4 * L .states + 6 * i + j ≡ length a + (6 * i + j) = omega arith in
+      rw e
+      (getD-append-add a (transitionsBytes 1 all) (6 * i + j) 0 ∙ rw one-add at (transition-byte all 1 i j l k))
 
-  pub normal-transition : (i : ℕ) → i < h .transitions
-      → transitionRecord (normal (ltsOf s)) h (suc i) ≡ normalTransition (suc i) (nth (transitionsBelow (ltsOf s) (h .states)) i) (drop (suc i) (transitionsBelow (ltsOf s) (h .states)))
-  unfolding transitionRecord normalTransition
+  pub normal-transition : (i : ℕ) → i < length (transitions L)
+      → transitionRecord (normal L) (normalHeader L) (suc i) ≡ normalTransition (suc i) (nth (transitions L) i) (drop (suc i) (transitions L))
+  unfolding transitionRecord normalTransition transitions
   normal-transition i l =
-      let all = transitionsBelow (ltsOf s) (h .states) in
-      let c = all-count s h g in
-      let b = g .recorded .sized .bounds in
-      let e = lts-states s h (g .header) in
-      let v = every-nth (Sourced (ltsOf s) (h .states)) all i (all-keep (ltsOf s) (h .states)) (omega arith) .valid .target in
+      let b = w .bounds in
+      let v = every-nth (Sourced L (L .states)) all i (all-keep L (L .states)) l .valid .target in
       let n = next-small (suc i) (nth all i) (drop (suc i) all) in
       let at₀ : suc i - 1 ≡ i = omega arith in
       rw at₀
-      (transition-back (normal (ltsOf s)) (6 + 4 * h .states + 6 * i) (normalTransition (suc i) (nth all i) (drop (suc i) all)) (omega arith) (omega arith) (λ j k. transition-at i j l k))
+      (transition-back (normal L) (6 + 4 * L .states + 6 * i) (normalTransition (suc i) (nth all i) (drop (suc i) all)) (omega arith) (omega arith)
+      (λ j k. transition-at i j l k))

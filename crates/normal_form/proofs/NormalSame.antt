@@ -1,101 +1,86 @@
--- The normal form of a readable encoding is readable, with the same header, and denotes the same Lts.
+-- The normal form of a system that a sheet can hold is readable, with the system's counts as header, and denotes the system.
 use Prim.Native.Nat.{ℕ, zero, suc, _+_, _*_, _≤_, _<_}
 use mathlib.Core.Path.{_≡_, refl, sym, ap, _∙_, fun-ext}
 use mathlib.Core.Bool.{Bool, true, false, cond}
-use mathlib.Core.List.{List, map}
+use mathlib.Core.List.{map}
 use native.Mathlib.Omega.{arith}
 use native.Mathlib.Nat.{not-suc-le-zero, add-zero}
 use native.Mathlib.Decide.{decLt}
-use borrow.Author.Tests.{lt-ltb, le-ltb}
+use borrow.Author.Tests.{lt-ltb}
 use lib.ListN.{length}
-use lib.Dec.{eqb}
+use lib.Dec.{T, eqb}
 use Rattle.encoding.specs.declared.Header.{Header}
 use Rattle.encoding.specs.Encoding.{chain, member, successor, successorsFit}
 use Rattle.encoding.specs.Denotation.{ltsOf}
+use Rattle.lts.specs.System.{Lts}
 use Rattle.lts.specs.Transitions.{transitionsOf}
-use Rattle.normal_form.specs.Normal.{normal}
+use Rattle.normal_form.specs.Normal.{normalHeader, normal}
+use Rattle.normal_form.specs.NormalForm.{Encodable}
 use Rattle.encoding.specs.Checked.{ReadableAs}
-use Rattle.lts.proofs.Below.{all-of}
-use Rattle.encoding.proofs.Denotation.{lts-states, lts-actions, lts-terminating, transition-member, Sound, sound}
+use Rattle.lts.proofs.Bounded.{test-ext}
+use Rattle.lts.proofs.Below.{all-of, T-true, true-T}
+use Rattle.encoding.proofs.Denotation.{lts-states, lts-actions, lts-terminating, lts-ends, transition-member, sound}
 use Rattle.transitions.proofs.Codes.{code, codes-distinct, codes-in, codes-out}
 use Rattle.normal_form.proofs.NormalReads.{normal-header}
-use Rattle.normal_form.proofs.NormalChains.{L, recorded, chains-ok, successors-on, chain-on, state-is}
+use Rattle.normal_form.proofs.NormalChains.{recorded, chains-ok, successors-on, chain-on, state-is}
 
-both : (b c : Bool) → (b ≡ true → c ≡ true) → (c ≡ true → b ≡ true) → b ≡ c
-both true c p q = sym (p refl)
-both false true p q = q refl
-both false false p q = refl
-
-module _ (s : List ℕ) (h : Header) (g : ReadableAs s h) where
-  pub few-states : L s h g .states ≤ 256
-  unfolding L
-  few-states =
-      let e = lts-states s h (g .header) in
-      let b = g .recorded .sized .bounds in
-      omega (arith, e)
+module _ (L : Lts) (w : Encodable L) where
+  abbrev h : Header
+  h = normalHeader L
 
   -- ## Rule 6
-  pub chain-codes : (p : ℕ) → p < h .states → map (successor (normal (L s h g)) h) (chain (normal (L s h g)) h p) ≡ map code (transitionsOf (L s h g) p)
-  chain-codes p l = rw (chain-on s h g p l) (rw add-zero at (successors-on s h g p l (length (transitionsOf (L s h g) p)) 0 (omega arith)))
+  pub chain-codes : (p : ℕ) → p < L .states → map (successor (normal L) h) (chain (normal L) h p) ≡ map code (transitionsOf L p)
+  chain-codes p l = rw (chain-on L w p l) (rw add-zero at (successors-on L w p l (length (transitionsOf L p)) 0 (omega arith)))
 
-  successors-ok : successorsFit (normal (L s h g)) h ≡ true
+  successors-ok : successorsFit (normal L) h ≡ true
   unfolding successorsFit
-  successors-ok = all-of (h .states) _ (λ p l. rw (chain-codes p l) (codes-distinct (L s h g) few-states p))
+  successors-ok = all-of (L .states) _ (λ p l. rw (chain-codes p l) (codes-distinct L (w .bounds .states) p))
 
-  pub normal-readable : ReadableAs (normal (ltsOf s)) h
-  unfolding L
-  normal-readable = record { recorded = recorded s h g; header = sym (normal-header s h g); chains = chains-ok s h g; successors = successors-ok }
+  pub normal-readable : ReadableAs (normal L) (normalHeader L)
+  normal-readable = record { recorded = recorded L w; header = sym (normal-header L w); chains = chains-ok L w; successors = successors-ok }
 
   -- ## The same Lts
-  same-transition : (p a t : ℕ) → ltsOf (normal (ltsOf s)) .transition p a t ≡ ltsOf s .transition p a t
-  unfolding L
-  same-transition p a t = both _ _ forth (λ e. back a (sound s h g p a t e) e)
+  same-transition : (p a t : ℕ) → ltsOf (normal L) .transition p a t ≡ L .transition p a t
+  same-transition p a t = test-ext _ _ forth (back a)
     where
-      n : ReadableAs (normal (ltsOf s)) h
-      n = normal-readable
+      forth : T (ltsOf (normal L) .transition p a t) → T (L .transition p a t)
+      forth x =
+          let e = T-true _ x in
+          let k = sound (normal L) h normal-readable p a t e in
+          let b = w .bounds .states in
+          let on = transition-member (normal L) h normal-readable p a t (k .source) (k .target) in
+          true-T _ (codes-out L b p a t (omega (arith, k, b)) (sym (ap (member (256 * a + t)) (chain-codes p (k .source))) ∙ (sym on ∙ e)))
 
-      b256 : h .states ≤ 256
-      b256 = g .recorded .sized .bounds .states
+      back : (a : ℕ) → T (L .transition p a t) → T (ltsOf (normal L) .transition p a t)
+      back zero x = absurd (not-suc-le-zero (w .formed .action p zero t x .0))
+      back (suc a) x =
+          let l = w .formed .source p (suc a) t x in
+          let to = w .formed .target p (suc a) t x in
+          let high = w .formed .action p (suc a) t x .1 in
+          true-T _
+          (transition-member (normal L) h normal-readable p (suc a) t l to
+          ∙ (ap (member (256 * suc a + t)) (chain-codes p l) ∙ codes-in L (w .bounds .states) p a t high to (T-true _ x)))
 
-      forth : ltsOf (normal (ltsOf s)) .transition p a t ≡ true → ltsOf s .transition p a t ≡ true
-      forth e =
-          let k = sound (normal (ltsOf s)) h n p a t e in
-          let b = b256 in
-          codes-out (ltsOf s) few-states p a t (omega (arith, k))
-          (sym (ap (member (256 * a + t)) (chain-codes p (k .source))) ∙ (sym (transition-member (normal (ltsOf s)) h n p a t (k .source) (k .target)) ∙ e))
-
-      back : (a : ℕ) → Sound h p a t → ltsOf s .transition p a t ≡ true → ltsOf (normal (ltsOf s)) .transition p a t ≡ true
-      back zero k e = absurd (not-suc-le-zero (k .low))
-      back (suc a) k e =
-          let c = lts-states s h (g .header) in
-          let d = lts-actions s h (g .header) in
-          transition-member (normal (ltsOf s)) h n p (suc a) t (k .source) (k .target)
-          ∙ (ap (member (256 * suc a + t)) (chain-codes p (k .source)) ∙ codes-in (ltsOf s) few-states p a t (omega (arith, k, d)) (omega (arith, k, c)) e)
-
-  same-terminating : (p : ℕ) → ltsOf (normal (ltsOf s)) .terminating p ≡ ltsOf s .terminating p
-  unfolding L
-  same-terminating p = go (decLt p (h .states))
+  same-terminating : (p : ℕ) → ltsOf (normal L) .terminating p ≡ L .terminating p
+  same-terminating p = go (decLt p (L .states))
     where
-      n : ReadableAs (normal (ltsOf s)) h
-      n = normal-readable
-
       mark : (b : Bool) → eqb (cond b 1 0) 1 ≡ b
       mark true = refl
       mark false = refl
 
-      go : Dec (p < h .states) → ltsOf (normal (ltsOf s)) .terminating p ≡ ltsOf s .terminating p
+      go : Dec (p < L .states) → ltsOf (normal L) .terminating p ≡ L .terminating p
       go (yes l) =
-          lts-terminating (normal (ltsOf s)) h (n .header) p
-          ∙ rw (lt-ltb p (h .states) l) (ap (λ r. eqb (r .mark) 1) (state-is s h g p l) ∙ mark (ltsOf s .terminating p))
+          lts-terminating (normal L) h (normal-readable .header) p
+          ∙ rw (lt-ltb p (L .states) l) (ap (λ r. eqb (r .mark) 1) (state-is L w p l) ∙ mark (L .terminating p))
       go (no l) =
-          let z = le-ltb p (h .states) (omega (arith, l)) in
-          rw (lts-terminating (normal (ltsOf s)) h (n .header) p, lts-terminating s h (g .header) p, z)
+          let out : L .states ≤ p = omega (arith, l) in
+          let n = lts-states (normal L) h (normal-readable .header) in
+          lts-ends (normal L) h (normal-readable .header) p (omega (arith, out, n)) ∙ sym (w .ends p out)
 
-  pub same : ltsOf (normal (ltsOf s)) ≡ ltsOf s
+  pub same : ltsOf (normal L) ≡ L
   same =
-      let n = normal-readable in
-      let states = lts-states (normal (ltsOf s)) h (n .header) ∙ sym (lts-states s h (g .header)) in
-      let actions = lts-actions (normal (ltsOf s)) h (n .header) ∙ sym (lts-actions s h (g .header)) in
+      let states = lts-states (normal L) h (normal-readable .header) in
+      let actions = lts-actions (normal L) h (normal-readable .header) in
       λ i.
       record {
         states = states i;

@@ -133,7 +133,7 @@ pub each-record : (s : List ℕ) (h : Header) → reached s h (h .states) ≡ li
 unfolding reached
 each-record s h e P k i l =
     let a = rw e at (concat-keeps (chain s h) P (h .states) k) in
-    rw (getD-listBelow (h .transitions) suc i l) at (every-at P 0 (listBelow (h .transitions) suc) i a (rw length-listBelow l))
+    rw (getD-listBelow 0 (h .transitions) suc i l) at (every-at P 0 (listBelow (h .transitions) suc) i a (rw length-listBelow l))
 
 -- chains whose records' numbers rise are in normal form
 pub is-normal : (s : List ℕ) (h : Header) → ReadableAs s h → reached s h (h .states) ≡ listBelow (h .transitions) suc

@@ -20,7 +20,7 @@ use Rattle.transitions.specs.Table.{tableLts, Holds}
 use Rattle.normal_form.specs.Normal.{normal}
 use Rattle.normal_form.specs.Normalise.{normaliseRules, normaliseCall, NormalisePromise}
 use Rattle.encoding.proofs.Reader.{readable-of, sheet-broken, sheet-kept}
-use Rattle.normal_form.proofs.NormalReads.{normal-length}
+use Rattle.normal_form.proofs.Encodable.{sheet-length}
 use Rattle.normal_form.proofs.Laws.{normalise-promised}
 
 -- what `normalise` says of its answer r and of the bytes o that it leaves
@@ -45,7 +45,7 @@ module _ (s out : List ℕ) where
 
   -- the normal form of the table that the encoding is loaded into fills the buffer
   pub fills : {h : Header} {t : List ℕ} → readEncoding s ≡ Readable h → length out ≡ length s → Holds (ltsOf s) t → length (normal (tableLts t)) ≡ length out
-  fills {h} e n k = ap (λ (L : Lts). length (normal L)) (k .same) ∙ normal-length s h (readable-of e) ∙ sym n
+  fills e n k = ap (λ (L : Lts). length (normal L)) (k .same) ∙ sheet-length (readable-of e) ∙ sym n
 
   pub written : {h : Header} {t o : List ℕ} → readEncoding s ≡ Readable h → length out ≡ length s → Holds (ltsOf s) t
       → o ≡ normal (tableLts t) ++ drop (length (normal (tableLts t))) out → Meets s out Passed o

@@ -1,6 +1,6 @@
 -- The normal form of a table's system, written record by record.
 use Prim.Native.Nat.{ℕ, _+_, _*_, _≤_, _<_}
-use mathlib.Core.Path.{_≡_, refl, sym, ap, _∙_}
+use mathlib.Core.Path.{_≡_, refl, sym, ap, _∙_, subst}
 use mathlib.Core.Bool.{cond}
 use mathlib.Core.List.{List, [], _∷_, _++_}
 use native.Mathlib.Omega.{arith}
@@ -22,7 +22,8 @@ use Rattle.normal_form.specs.Normal.{firstIndex, nextIndex, normalHeader
 use Rattle.normal_form.specs.Written.{Counts, transitionsFrom}
 use Rattle.transitions.proofs.Filled.{transitions-count}
 use Rattle.normal_form.proofs.Tables.{from-more, from-none}
-use Rattle.normal_form.proofs.Bytes.{record-length, transitions-length, states-length, header-length, mark-small}
+use Rattle.normal_form.proofs.Bytes.{record-length, states-length, header-length, normal-length, mark-small}
+use Rattle.normal_form.proofs.Encodable.{formed-encodable}
 
 -- ## State records, one after the other
 module _ (L : Lts) where
@@ -37,17 +38,12 @@ module _ (L : Lts) where
 
 module _ (t : List ℕ) (ok : Formed t) where
   -- ## The header
-  pub counts-bounds : {h : Header} → Counts t h → Bounds h
-  counts-bounds c = record {
-    state = rw (c .states) (ok .some);
-    states = rw (c .states) (ok .states);
-    actions = rw (c .actions) (ok .labels);
-    transitions = rw (c .transitions) (ok .size);
-  }
-
   counts-header : {h : Header} → Counts t h → normalHeader (tableLts t) ≡ h
-  unfolding normalHeader tableLts
+  unfolding tableLts
   counts-header c = λ i. record { states = sym (c .states) i; actions = sym (c .actions) i; transitions = (transitions-count t ok ∙ sym (c .transitions)) i }
+
+  pub counts-bounds : {h : Header} → Counts t h → Bounds h
+  counts-bounds c = subst Bounds (counts-header c) (formed-encodable t ok .bounds)
 
   -- ## The record of a state
   pub mark-byte : (p : ℕ) → p < statesOf t → markAt t p < 256
@@ -110,12 +106,7 @@ module _ (t : List ℕ) (ok : Formed t) where
     parts = rw (counts-header c, c .states)
 
     pub normal-size : length (normal (tableLts t)) ≡ encodingLength h
-    normal-size =
-        let a = header-length h in
-        let b = states-length (tableLts t) (h .states) in
-        let d = transitions-length 1 (transitions (tableLts t)) in
-        let k = transitions-count t ok in
-        rw (parts, length-append, length-append) (omega (arith, a, b, d, k, c .transitions))
+    normal-size = normal-length (tableLts t) ∙ ap encodingLength (counts-header c)
 
     pub whole : (o : List ℕ) → length (normal (tableLts t)) ≤ length o
         → sets (sets (sets o 0 header) (stateAt h 0) states) (transitionAt h 1) records ≡ normal (tableLts t) ++ drop (length (normal (tableLts t))) o

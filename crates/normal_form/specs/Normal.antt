@@ -23,7 +23,7 @@ nextIndex i x [] = 0
 nextIndex i x (y ∷ l) = cond (eqb (y .source) (x .source)) (i + 1) 0
 
 -- the header and the records of the normal form
-unfoldable pub normalHeader : Lts → Header
+abbrev pub normalHeader : Lts → Header
 normalHeader L = record { states = L .states; actions = L .actions; transitions = length (transitions L) }
 
 unfoldable pub normalState : Lts → ℕ → StateRecord

@@ -1,18 +1,22 @@
 -- Normal form in document 01's words ("The sheet"): records ordered by source page, then action, then target; each chain consecutive and in
--- that order. The law `normal-form` (proofs/Laws.antt) says that `normal` writes it, and that there is no other.
-use Prim.Native.Nat.{ℕ, suc, _+_, _<_}
+-- that order. The law `normal-form` (proofs/Laws.antt) says that `normal` writes it of every system that a sheet can hold, and that there is
+-- no other.
+use Prim.Native.Nat.{ℕ, suc, _+_, _≤_, _<_}
 use mathlib.Core.Path.{_≡_}
-use mathlib.Core.Bool.{Bool, true, _&&_, _||_}
+use mathlib.Core.Bool.{Bool, true, false, _&&_, _||_}
 use mathlib.Core.List.{List}
 use lib.ListN.{length, getD}
 use lib.Dec.{ltb, eqb}
 use Rattle.lts.specs.Bounded.{allBelow, listBelow}
+use Rattle.lts.specs.System.{Lts, WellFormed}
 use Rattle.encoding.specs.declared.Header.{Header}
 use Rattle.encoding.specs.declared.TransitionRecord.{TransitionRecord}
 use Rattle.encoding.specs.declared.Reading.the-variants.{Readable}
-use Rattle.encoding.specs.Records.{headerOf, transitionRecord}
+use Rattle.encoding.specs.Records.{transitionRecord}
 use Rattle.encoding.specs.Encoding.{reached, readEncoding}
 use Rattle.encoding.specs.Denotation.{ltsOf}
+use Rattle.encoding.specs.Checked.{Bounds}
+use Rattle.normal_form.specs.Normal.{normalHeader}
 
 -- r comes before q: by action, then target
 unfoldable pub before : TransitionRecord → TransitionRecord → Bool
@@ -33,13 +37,18 @@ pub record IsNormal (s : List ℕ) (h : Header) : Type 0 where
 abbrev pub IsBytes : List ℕ → Type 0
 IsBytes s = (i : ℕ) → i < length s → getD s i 0 < 256
 
--- t is the normal form of s
-pub record NormalForm (s t : List ℕ) : Type 0 where
-  -- it is a sequence of bytes, of the length of s; it is read, with the header of s, and denotes the same Lts
+-- a system that a sheet can hold: well formed, within the limits of document 01, with no end mark outside its states
+pub record Encodable (L : Lts) : Type 0 where
+  pub formed : WellFormed L
+  pub ends : (p : ℕ) → L .states ≤ p → L .terminating p ≡ false
+  pub bounds : Bounds (normalHeader L)
+
+-- t is the normal form of L
+pub record NormalForm (L : Lts) (t : List ℕ) : Type 0 where
+  -- it is a sequence of bytes; it is read, with the counts of L as header, and denotes L
   pub bytes : IsBytes t
-  pub long : length t ≡ length s
-  pub reads : readEncoding t ≡ Readable (headerOf s)
-  pub same : ltsOf t ≡ ltsOf s
-  -- it is in normal form, and there is no other: every readable sequence of bytes in normal form that denotes this Lts is t
-  pub normal : IsNormal t (headerOf s)
-  pub only : (u : List ℕ) (h : Header) → IsBytes u → readEncoding u ≡ Readable h → IsNormal u h → ltsOf u ≡ ltsOf s → u ≡ t
+  pub reads : readEncoding t ≡ Readable (normalHeader L)
+  pub same : ltsOf t ≡ L
+  -- it is in normal form, and there is no other: every readable sequence of bytes in normal form that denotes L is t
+  pub normal : IsNormal t (normalHeader L)
+  pub only : (u : List ℕ) (h : Header) → IsBytes u → readEncoding u ≡ Readable h → IsNormal u h → ltsOf u ≡ L → u ≡ t

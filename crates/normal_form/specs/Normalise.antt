@@ -8,6 +8,7 @@ use lib.Dec.{eqb}
 use Rattle.lts.specs.declared.Refusal.{Refusal}
 use Rattle.lts.specs.declared.Refusal.the-variants.{Buffer}
 use Rattle.lts.specs.Rule.{Rule, _otherwise_, Nothing, First, broken, checked, Reply, refused, given}
+use Rattle.encoding.specs.Records.{headerOf}
 use Rattle.encoding.specs.Encoding.{sheetRules}
 use Rattle.encoding.specs.Denotation.{ltsOf}
 use Rattle.normal_form.specs.Normal.{normal}
@@ -31,5 +32,6 @@ normaliseCall s out =
 pub record NormalisePromise (s out₀ : List ℕ) (reply : Reply) (out : List ℕ) : Type 0 where
   -- the refusal of the first broken rule, and the buffer as it was
   pub refuses : (r : Refusal) → broken (normaliseRules s out₀) ≡ First r → (reply ≡ refused r) × (out ≡ out₀)
-  -- otherwise the buffer holds the sheet's normal form, the only one
-  pub answers : broken (normaliseRules s out₀) ≡ Nothing → (reply ≡ given []) × NormalForm s out
+  -- otherwise the buffer holds the normal form of the sheet's flow, the only one, with the sheet's own length and header
+  pub answers : broken (normaliseRules s out₀) ≡ Nothing
+      → (reply ≡ given []) × (length out ≡ length s) × (headerOf out ≡ headerOf s) × NormalForm (ltsOf s) out

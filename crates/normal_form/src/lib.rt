@@ -95,6 +95,14 @@ fn write_transitions(out: &mut [u8], h: encoding::Header, table: &transitions::T
     }
 }
 
+// The length of the normal form of the table's system.
+pub fn table_length(table: &transitions::Table) -> usize
+    requires { ⌜ Formed (now table) ⌝ }
+    ensures { λ r. ⌜ r ≡ length (normal (tableLts (now (table .entry)))) ⌝ }
+{
+    table_header(table).length()
+}
+
 // Writes the normal form of the table's system at the start of the buffer.
 pub fn write_table(table: &transitions::Table, out: &mut [u8])
     requires { ⌜ Formed (now table) × (length (normal (tableLts (now table))) ≤ length (now out)) ⌝ }

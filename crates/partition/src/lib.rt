@@ -140,12 +140,6 @@ fn member_at(row: &[u64], k: usize, j: usize) -> usize
     x
 }
 
-fn wide(x: u16) -> usize
-    ensures { λ r. ⌜ r ≡ x ⌝ }
-{
-    x as usize
-}
-
 // The pending representative that number `step` of the schedule chooses, or number 0 when the schedule is used up.
 pub fn next_block(pending: &[u64; 4], n: usize, c: usize, schedule: &[u16], step: usize) -> usize
     requires { ⌜ (n ≤ 256) × (0 < c) × (c ≡ length (passing n (inRow (now pending)))) ⌝ }
@@ -153,7 +147,7 @@ pub fn next_block(pending: &[u64; 4], n: usize, c: usize, schedule: &[u16], step
 {
     let w = rows::row_words(n);
     if step < schedule.len() {
-        let e = wide(schedule[step]);
+        let e = rows::wide(schedule[step]);
         return member_at(pending, w, e % c);
     }
     member_at(pending, w, 0)

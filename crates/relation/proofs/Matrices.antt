@@ -56,7 +56,7 @@ length-matrixOf n R = length-listBelow (n * rowWords n) _
 pub getD-matrixOf : (n : ℕ) (R : ℕ → ℕ → Bool) (p c : ℕ) → p < n → c < rowWords n → getD (matrixOf n R) (p * rowWords n + c) 0 ≡ wordAt (statesBelow n (R p)) c
 unfolding matrixOf
 getD-matrixOf n R p c hp hc =
-    getD-listBelow (n * rowWords n) _ (p * rowWords n + c) (word-below n hp hc)
+    getD-listBelow 0 (n * rowWords n) _ (p * rowWords n + c) (word-below n hp hc)
     ∙ ap₂ (λ (a b : ℕ). wordAt (statesBelow n (R a)) b) (digits-div p hc) (digits-mod p hc)
 
 -- the relation of a matrix of R is R on the states, and empty beyond them
@@ -199,7 +199,7 @@ module _ (a w : ℕ) (g : List ℕ) (S : ℕ → Bool) (room : a + w ≤ length 
   unfolding put
   put-row c h =
       ap (λ (k : ℕ). getD put (k + c) 0) (sym (length-take-le a g (omega arith))) ∙ getD-append-add (take a g) _ c 0
-      ∙ List·getD-append (rowOf w S) _ 0 c (omega (arith, length-listBelow w (wordAt S))) ∙ getD-listBelow w (wordAt S) c h
+      ∙ List·getD-append (rowOf w S) _ 0 c (omega (arith, length-listBelow w (wordAt S))) ∙ getD-listBelow 0 w (wordAt S) c h
 
   put-above : (j : ℕ) → a + w ≤ j → getD put j 0 ≡ getD g j 0
   unfolding put

@@ -2,28 +2,23 @@
 use Prim.Native.Nat.{ℕ, _+_, _*_, _-_, _≤_}
 use native.Mathlib.Nat.{mul-le-mul}
 use native.Mathlib.Omega.{arith}
-use mathlib.Core.Path.{_≡_, sym, ap, _∙_}
+use mathlib.Core.Path.{_≡_, refl, sym, ap, _∙_}
 use mathlib.Core.Logic.{⊎-elim}
-use mathlib.Core.Bool.{and-eq-true-iff}
-use mathlib.Core.List.{List, [], _∷_, _++_}
-use borrow.Author.Tests.{leb-true}
+use mathlib.Core.List.{List, [], _∷_}
 use Rattle.lts.specs.Union.{disjointUnion, comparison}
-use Rattle.lts.specs.declared.Refusal.the-variants.{TooLarge}
-use Rattle.lts.specs.Rule.{_otherwise_, Nothing, broken, Reply, given}
-use Rattle.lts.proofs.Rule.{kept, both-kept, finding, numbered}
-use Rattle.encoding.specs.Records.{headerOf}
-use Rattle.encoding.specs.Encoding.{sheetRules}
+use Rattle.lts.specs.Rule.{Nothing, broken, Reply, given}
+use Rattle.lts.proofs.Rule.{finding, numbered}
 use Rattle.encoding.specs.Denotation.{ltsOf}
-use Rattle.comparison.specs.Call.{fits, compareRules, ComparePromise}
+use Rattle.inputs.specs.Both.{bothRules}
+use Rattle.inputs.proofs.Joined.{both-joinable}
+use Rattle.comparison.specs.Call.{ComparePromise}
 
 module _ {first second : List ℕ} {value steps : ℕ} {reply : Reply} (p : ComparePromise first second reply) (is : reply ≡ given (value ∷ steps ∷ [])) where
-  states : broken (compareRules first second) ≡ Nothing → disjointUnion (ltsOf first) (ltsOf second) .states ≤ 256
-  unfolding compareRules fits disjointUnion ltsOf
-  states k =
-      let e = simp and-eq-true-iff at (kept (fits (headerOf first) (headerOf second)) TooLarge [] (both-kept (sheetRules first ++ sheetRules second) (fits (headerOf first) (headerOf second) otherwise TooLarge ∷ []) k .1) .0) in
-      leb-true _ _ (e .0)
+  states : broken (bothRules first second) ≡ Nothing → disjointUnion (ltsOf first) (ltsOf second) .states ≤ 256
+  unfolding disjointUnion ltsOf
+  states k = both-joinable first second refl refl k .states
 
-  turns : broken (compareRules first second) ≡ Nothing → steps ≡ comparison (ltsOf first) (ltsOf second) .steps
+  turns : broken (bothRules first second) ≡ Nothing → steps ≡ comparison (ltsOf first) (ltsOf second) .steps
   turns k = ⊎-elim (λ y. by y) (λ y. by y) (p .answers k)
     where
       by : {v : ℕ} {Q : Type 0} → (reply ≡ given (v ∷ comparison (ltsOf first) (ltsOf second) .steps ∷ [])) × Q
@@ -39,4 +34,4 @@ module _ {first second : List ℕ} {value steps : ℕ} {reply : Reply} (p : Comp
       let m : N * (N - 1) ≤ 256 * 255 = mul-le-mul f g in
       omega (arith, turns k, p .bound k, m))
       (λ q. absurd (numbered (q .0) (ap (λ (x : Reply). x .refusal) (sym is ∙ p .refuses (q .0) (q .1)))))
-      (finding (compareRules first second))
+      (finding (bothRules first second))

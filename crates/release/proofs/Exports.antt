@@ -8,6 +8,7 @@ use Rattle.normal_form.specs.Normalise.{NormaliseOutcome, normaliseCall, Normal
 use Rattle.simulation.specs.Calls.{TerminationOutcome, simulationCall, SimulationPromise}
 use Rattle.game.specs.Play.{playCall, PlayPromise}
 use Rattle.comparison.specs.Call.{compareCall, ComparePromise}
+use Rattle.disjoint_union.specs.Join.{JoinOutcome, joinCall, JoinPromise}
 use Rattle.strategy.specs.Check.{checkCall, CheckPromise}
 use Rattle.strategy.specs.Write.{WriteOutcome, writeCall, WritePromise}
 use Rattle.strategy_bytes.specs.Bytes.{entryBytes, entriesOfBytes}
@@ -35,6 +36,14 @@ pub simulation-exported : {s start claim words others : List ℕ} {reply : Reply
     → (simulationCall s start claim ≡ unpacked onePlace x)
     × ((x ≡ packed onePlace (unpacked onePlace x)) × SimulationPromise s start claim (unpacked onePlace x))
 simulation-exported {s} {start} {claim} {words} {others} w v e h k l = rw (← w, ← v) (exported onePlace (SimulationPromise s words others) e h k l)
+
+pub join-exported : {first second out₀ out : List ℕ} {reply : Reply} {x : ℕ} → joinCall first second out₀ ≡ record { reply = reply; out = out }
+    → JoinPromise first second out₀ reply out → x ≡ packed onePlace reply → Kept onePlace reply
+    → (joinCall first second out₀ ≡ record { reply = unpacked onePlace x; out = out })
+    × ((x ≡ packed onePlace (unpacked onePlace x)) × JoinPromise first second out₀ (unpacked onePlace x) out)
+join-exported {first} {second} {out₀} {out} e p k l =
+    let c = carried onePlace k l in
+    (e ∙ ap (λ (y : Reply). record { reply = y; out = out }) c, (exact onePlace k l, subst (λ (y : Reply). JoinPromise first second out₀ y out) c p))
 
 pub normalise-exported : {s out₀ out : List ℕ} {reply : Reply} {x : ℕ} → normaliseCall s out₀ ≡ record { reply = reply; out = out }
     → NormalisePromise s out₀ reply out → x ≡ packed noPlace reply → Kept noPlace reply

@@ -11,6 +11,7 @@ ghost use Rattle.coarsest.specs.Call.{coarsestReply};
 ghost use Rattle.coarsest_bytes.specs.Call.{coarsestOnBytes, CoarsestBytesPromise};
 ghost use Rattle.coarsest_bytes.specs.Carried.{Small};
 ghost use Rattle.comparison.specs.Call.{compareReply, compareCall, ComparePromise};
+ghost use Rattle.disjoint_union.specs.Join.{joinReply, joinCall, JoinPromise};
 ghost use Rattle.strategy.specs.Check.{checkReply, checkCall, CheckPromise};
 ghost use Rattle.strategy.specs.Write.{writeReply, writeCall, WritePromise};
 ghost use Rattle.strategy_bytes.specs.Bytes.{entryBytes, entriesOfBytes};
@@ -93,6 +94,21 @@ pub extern "C" fn flow_compare(first: &[u8], second: &[u8]) -> u64
         comparison::Compared::Refused(r) => lts::refusal_number(r),
         comparison::Compared::Yes(steps) => 256 + 65536 * (steps as u64),
         comparison::Compared::No(steps) => 65536 * (steps as u64),
+    }
+}
+
+// Join, into a buffer at least as long as the sheet that is written. Bytes past it stay as they are.
+#[no_mangle]
+pub extern "C" fn flow_join(first: &[u8], second: &[u8], out: &mut [u8]) -> u64
+    ensures { λ r. ⌜ joinCall (now (first .entry)) (now (second .entry)) (now (out .entry))
+        ≡ record { reply = unpacked onePlace r; out = now (out .exit) } ⌝ }
+    ensures { λ r. ⌜ r ≡ packed onePlace (unpacked onePlace r) ⌝ }
+    ensures { λ r. ⌜ JoinPromise (now (first .entry)) (now (second .entry)) (now (out .entry)) (unpacked onePlace r) (now (out .exit)) ⌝ }
+{
+    let answer = disjoint_union::join(first, second, out);
+    match answer {
+        disjoint_union::Joined::Refused(r) => lts::refusal_number(r),
+        disjoint_union::Joined::Written(length) => 256 * (length as u64),
     }
 }
 

@@ -44,7 +44,7 @@ wordAt-lt S c = wordOf-lt 64 (λ i. S (c * 64 + i))
 pub inRow-of : (k : ℕ) (S : ℕ → Bool) (q : ℕ) → q < k * 64 → inRow (rowOf k S) q ≡ S q
 unfolding inRow
 inRow-of k S q h =
-    ap (λ (x : ℕ). bit x (q % 64)) (getD-listBelow k (wordAt S) (q / 64) (omega arith)) ∙ bit-wordAt S (q / 64) (q % 64) (mod-lt q (omega arith)) ∙ ap S (div-add-mod' q 64)
+    ap (λ (x : ℕ). bit x (q % 64)) (getD-listBelow 0 k (wordAt S) (q / 64) (omega arith)) ∙ bit-wordAt S (q / 64) (q % 64) (mod-lt q (omega arith)) ∙ ap S (div-add-mod' q 64)
 
 pub inRow-written : (k : ℕ) (S : ℕ → Bool) (rest : List ℕ) (q : ℕ) → q < k * 64 → inRow (rowOf k S ++ rest) q ≡ S q
 unfolding inRow
@@ -285,7 +285,7 @@ set-words k w A S d room long blank agree none =
     list-ext k (wordAt S) (rowOf w A ++ drop w d) (omega (arith, length-append (rowOf w A) (drop w d), length-listBelow w (wordAt A), length-drop w d, long)) (λ c h.
     ⊎-elim
     (λ (l : c < w).
-    List·getD-append (rowOf w A) (drop w d) 0 c (omega (arith, length-listBelow w (wordAt A))) ∙ getD-listBelow w (wordAt A) c l
+    List·getD-append (rowOf w A) (drop w d) 0 c (omega (arith, length-listBelow w (wordAt A))) ∙ getD-listBelow 0 w (wordAt A) c l
     ∙ word-at S c (wordAt-lt A c) (λ i b. bit-wordAt A c i b ∙ agree (c * 64 + i) (omega arith)))
     (λ (l : w ≤ c).
     let split : c ≡ length (rowOf w A) + (c - w) = omega (arith, length-listBelow w (wordAt A)) in

@@ -8,6 +8,13 @@ ghost use lib.ListN.{length, drop};
 ghost use Rattle.lts.specs.Bounded.{anyBelow, countBelow, lowest};
 ghost use Rattle.rows.specs.Rows.{inRow, rowOf, rowWords, Next, includedBelow};
 
+// A 16-bit number as an index.
+pub fn wide(x: u16) -> usize
+    ensures { λ r. ⌜ (r ≡ x) × (r < 65536) ⌝ }
+{
+    x as usize
+}
+
 // w, the words of a row of n states.
 pub fn row_words(n: usize) -> usize
     requires { ⌜ n ≤ 1000 ⌝ }

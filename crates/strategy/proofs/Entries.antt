@@ -1,31 +1,19 @@
 -- The entries that a list of numbers carries, by their number. Assumes nothing.
-use Prim.Native.Nat.{ℕ, zero, suc, _+_, _*_, _/_, _≤_, _<_}
-use mathlib.Core.Path.{_≡_, refl, sym, _∙_, ap}
+use Prim.Native.Nat.{ℕ, _+_, _*_, _/_, _≤_, _<_}
+use mathlib.Core.Path.{_≡_, sym, _∙_, ap}
 use mathlib.Core.List.{List}
-use native.Mathlib.Nat.{not-suc-le-zero, le-of-suc-le-suc}
 use native.Mathlib.Omega.{arith}
 use lib.ListN.{length, getD}
 use Rattle.lts.specs.declared.Entry.{Entry}
-use Rattle.lts.specs.Bounded.{listBelow}
 use Rattle.lts.specs.Strategy.{entriesOf}
+use Rattle.lts.proofs.Below.{length-listBelow, getD-listBelow}
 use Rattle.strategy_check.specs.Entries.{entryOf}
 use Rattle.strategy_check.proofs.Entries.{entries-below}
 use Rattle.strategy.specs.Within.{blank}
 
-length-below : (k : ℕ) (f : ℕ → Entry) → length (listBelow k f) ≡ k
-unfolding listBelow
-length-below zero f = refl
-length-below (suc k) f = ap suc (length-below k (λ i. f (suc i)))
-
-getD-below : (k : ℕ) (f : ℕ → Entry) (i : ℕ) → i < k → getD (listBelow k f) i blank ≡ f i
-unfolding listBelow
-getD-below zero f i h = absurd (not-suc-le-zero h)
-getD-below (suc k) f zero h = refl
-getD-below (suc k) f (suc i) h = getD-below k (λ i. f (suc i)) i (le-of-suc-le-suc h)
-
 -- four numbers carry an entry
 pub length-entries : (xs : List ℕ) → length (entriesOf xs) ≡ length xs / 4
-length-entries xs = ap length (entries-below xs) ∙ length-below (length xs / 4) (entryOf xs)
+length-entries xs = ap length (entries-below xs) ∙ length-listBelow (length xs / 4) (entryOf xs)
 
 pub whole-entries : (c : ℕ) (xs : List ℕ) → 4 * c ≤ length xs → c ≤ length (entriesOf xs)
 whole-entries c xs h = let e = length-entries xs in omega (arith, e, h)
@@ -36,4 +24,4 @@ pub entry-read : (xs : List ℕ) (i : ℕ) → 4 * i + 4 ≤ length xs
 unfolding entryOf
 entry-read xs i h =
     let inside : i < length xs / 4 = omega arith in
-    sym (ap (λ (l : List Entry). getD l i blank) (entries-below xs) ∙ getD-below (length xs / 4) (entryOf xs) i inside)
+    sym (ap (λ (l : List Entry). getD l i blank) (entries-below xs) ∙ getD-listBelow blank (length xs / 4) (entryOf xs) i inside)

@@ -30,8 +30,8 @@ fn last_pair(numbers: &[u16]) -> Pair
 {
     let at = 4 * (numbers.len() / 4 - 1);
     Pair {
-        first: strategy_check::wide(numbers[at]),
-        second: strategy_check::wide(numbers[at + 1]),
+        first: rows::wide(numbers[at]),
+        second: rows::wide(numbers[at + 1]),
     }
 }
 

@@ -7,19 +7,12 @@ ghost use Rattle.transitions.specs.Table.{statesOf, tableLts, Formed};
 ghost use Rattle.relation.specs.Matrix.{relationOf, Matrix};
 ghost use Rattle.strategy_check.specs.Entries.{holdsPair, repliesHeld, outside, soundOver, soundAt};
 
-// A number of a plan.
-pub fn wide(x: u16) -> usize
-    ensures { λ r. ⌜ r ≡ x ⌝ }
-{
-    x as usize
-}
-
 // Whether entry j holds the pair (t, r).
 fn holds_pair(numbers: &[u16], j: usize, t: usize, r: usize) -> bool
     requires { ⌜ 4 * j + 4 ≤ length (now numbers) ⌝ }
     ensures { λ x. ⌜ x ≡ holdsPair (now (numbers .entry)) t r j ⌝ }
 {
-    (wide(numbers[4 * j]) == t) & (wide(numbers[4 * j + 1]) == r)
+    (rows::wide(numbers[4 * j]) == t) & (rows::wide(numbers[4 * j + 1]) == r)
 }
 
 // Whether each transition q, a, r has its pair (t, r) in an entry before number e. The search for a reply stops at the first that holds it.
@@ -102,10 +95,10 @@ fn is_sound_at(table: &transitions::Table, start: &[u64], numbers: &[u16], e: us
         x ≡ soundAt (tableLts (now (table .entry))) R (now (numbers .entry)) e
         ) ⌝ }
 {
-    let p = wide(numbers[4 * e]);
-    let q = wide(numbers[4 * e + 1]);
-    let a = wide(numbers[4 * e + 2]);
-    let t = wide(numbers[4 * e + 3]);
+    let p = rows::wide(numbers[4 * e]);
+    let q = rows::wide(numbers[4 * e + 1]);
+    let a = rows::wide(numbers[4 * e + 2]);
+    let t = rows::wide(numbers[4 * e + 3]);
     is_sound(table, start, numbers, e, p, q, a, t)
 }
 

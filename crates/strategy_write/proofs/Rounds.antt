@@ -25,7 +25,8 @@ use Rattle.relation.proofs.Matrices.{relation-of, formed-of}
 use Rattle.strategy_rounds.specs.Rounds.{nextRound}
 use Rattle.strategy_rounds.proofs.Steps.{round-inside}
 use Rattle.strategy_write.specs.Writing.{pairsOf, Consecutive, entryFrom, cellEntries, rowEntries, roundEntries, previous, WrittenBefore}
-use Rattle.strategy_write.proofs.Writes.{numbers-append, length-numbers, sets-append}
+use Rattle.lts.proofs.Lists.{sets-append}
+use Rattle.strategy_write.proofs.Writes.{numbers-append, length-numbers}
 
 concat-cong : (n : ℕ) (f g : ℕ → List Entry) → ((i : ℕ) → i < n → f i ≡ g i) → concatBelow n f ≡ concatBelow n g
 unfolding concatBelow
@@ -139,7 +140,7 @@ module _ (t : List ℕ) (start : Rel) where
         let fits : 0 + length (entryNumbers (strategy L start p q)) ≤ length d = omega (arith, total, room) in
         z ∙ ap (λ (v : Entry). sets x (4 * at) (entryNumbers (v ∷ []))) (last-entry e)
         ∙ ap₂ (λ (l : List ℕ) (i : ℕ). sets l i (entryNumbers one)) b place
-        ∙ sets-append d 0 (entryNumbers es) (entryNumbers one)
+        ∙ sym (sets-append d 0 (entryNumbers es) (entryNumbers one))
         ∙ ap (sets d 0) (sym (numbers-append es one) ∙ ap entryNumbers whole)
         ∙ sets-eq (entryNumbers (strategy L start p q)) d 0 fits
         ∙ ap (λ (i : ℕ). entryNumbers (strategy L start p q) ++ drop i d) end

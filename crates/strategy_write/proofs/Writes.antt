@@ -18,6 +18,7 @@ use Rattle.rows.specs.Rows.{inRow, rowWords}
 use Rattle.transitions.specs.Table.{statesOf, actionAt, targetAt, tableLts}
 use Rattle.relation.specs.Matrix.{relationOf, Matrix}
 use Rattle.lts.proofs.Below.{clash, any-yes}
+use Rattle.lts.proofs.Lists.{sets-append}
 use Rattle.relation.proofs.Checks.{rows-differ}
 use Rattle.strategy_rounds.specs.Rounds.{nextRound}
 use Rattle.strategy_write.specs.Writing.{pairsOf, Unanswered, entryFrom, cellEntries, rowEntries, roundEntries}
@@ -31,10 +32,6 @@ pub length-numbers : (xs : List Entry) → length (entryNumbers xs) ≡ 4 * leng
 unfolding entryNumbers
 length-numbers [] = refl
 length-numbers (x ∷ xs) = let h = length-numbers xs in omega (arith, h)
-
-pub sets-append : (l : List ℕ) (i : ℕ) (xs ys : List ℕ) → sets (sets l i xs) (i + length xs) ys ≡ sets l i (xs ++ ys)
-sets-append l i [] ys = let e : i + 0 ≡ i = omega arith in ap (λ (j : ℕ). sets l j ys) e
-sets-append l i (x ∷ xs) ys = let e : i + suc (length xs) ≡ suc i + length xs = omega arith in ap (λ (j : ℕ). sets (sets (set l i x) (suc i) xs) j ys) e ∙ sets-append (set l i x) (suc i) xs ys
 
 -- four stores
 pub put-is : (l : List ℕ) (i p q a t : ℕ) → set (set (set (set l i p) (i + 1) q) (i + 2) a) (i + 3) t ≡ sets l i (p ∷ q ∷ a ∷ t ∷ [])
@@ -68,7 +65,7 @@ module _ (d : List ℕ) (first : ℕ) (f : ℕ → List Entry) where
       let size = length-numbers done in
       let place : 4 * at ≡ 4 * first + length (entryNumbers done) = omega (arith, b, size) in
       e ∙ ap (λ (l : List ℕ). sets l (4 * at) (entryNumbers (f c))) a ∙ ap (λ (j : ℕ). sets (sets d (4 * first) (entryNumbers done)) j (entryNumbers (f c))) place
-      ∙ sets-append d (4 * first) (entryNumbers done) (entryNumbers (f c)) ∙ ap (sets d (4 * first)) (sym (numbers-append done (f c))) ∙ ap written (sym (add-one c))
+      ∙ sym (sets-append d (4 * first) (entryNumbers done) (entryNumbers (f c))) ∙ ap (sets d (4 * first)) (sym (numbers-append done (f c))) ∙ ap written (sym (add-one c))
 
   pub written-room : (c m : ℕ) {at : ℕ} → c < m → at ≡ first + length (concatBelow c f) → at + length (f c) ≤ first + length (concatBelow m f)
   unfolding concatBelow

@@ -75,7 +75,7 @@ rising-nth b (x ∷ l) i zero r k u = absurd (not-suc-le-zero k)
 rising-nth b (x ∷ l) zero (suc j) r k u = rising-above (suc (code x)) l j (r .1) (omega arith)
 rising-nth b (x ∷ l) (suc i) (suc j) r k u = rising-nth (suc (code x)) l i j (r .1) (omega arith) (omega arith)
 
-every-member : (Q : ℕ → Type 0) (x : ℕ) (l : List ℕ) → Every Q l → member x l ≡ true → Q x
+pub every-member : (Q : ℕ → Type 0) (x : ℕ) (l : List ℕ) → Every Q l → member x l ≡ true → Q x
 unfolding member
 every-member Q x [] r e = absurd (false≢true e)
 every-member Q x (y ∷ l) r e = go (every-member Q x l (r .1)) (eqb x y) refl

@@ -1,11 +1,8 @@
 -- How a table is filled: what is written grows by target, by action and by state. Assumes nothing.
-use Prim.Native.Nat.{ℕ, zero, suc, _+_, _*_, _-_, _%_, _≤_, _<_}
+use Prim.Native.Nat.{ℕ, zero, suc, _+_, _*_, _≤_, _<_}
 use mathlib.Core.Path.{_≡_, refl, sym, ap, _∙_, subst}
-use mathlib.Core.Logic.{_⊎_, inl, inr, ⊎-elim}
-use mathlib.Core.Bool.{Bool, true, false, cond, _&&_, and-false}
-use mathlib.Core.List.{List, [], _∷_, _++_, map}
-use lib.Dec.{eqb, leb}
-use borrow.Author.Tests.{eq-eqb, ne-eqb, le-leb, lt-leb}
+use mathlib.Core.Bool.{Bool, true, false, cond}
+use mathlib.Core.List.{List, [], _∷_, _++_}
 use native.Mathlib.Omega.{arith}
 use native.Mathlib.Nat.{not-suc-le-zero, le-refl, zero-add}
 use native.Mathlib.Numerals.{add-one}
@@ -16,19 +13,12 @@ use Rattle.lts.specs.Bounded.{passing, concatBelow}
 use Rattle.lts.specs.System.{Lts}
 use Rattle.lts.specs.Transitions.{Transition, transitionsTo, transitionsBy, transitionsOf, transitionsBelow}
 use Rattle.lts.proofs.Count.{passing-shorter}
-use Rattle.lts.proofs.Below.{lt-or-ge, either}
-use Rattle.lts.proofs.Lists.{Every, every-more, passing-none, passing-more, passing-room, passing-same, concat-same, concat-more, concat-grows}
+use Rattle.lts.proofs.Lists.{passing-none, passing-more, passing-room, concat-more, concat-grows}
 use Rattle.lts.proofs.Transitions.{to-none, to-more, to-length, up-none, up-more, up-grows}
-use Rattle.rows.specs.Rows.{inRow, rowOf, Next}
-use Rattle.rows.proofs.Rows.{inRow-of, part-in, getD-zeros}
-use Rattle.encoding.specs.declared.Header.{Header}
-use Rattle.encoding.specs.Checked.{ReadableAs}
-use Rattle.encoding.specs.Encoding.{chain, member, successor}
-use Rattle.encoding.specs.Denotation.{ltsOf}
-use Rattle.encoding.proofs.Denotation.{lts-states, transition-member, sound}
-use Rattle.encoding.proofs.Counting.{Good, good-successors, member-keeps}
+use Rattle.rows.specs.Rows.{inRow, Next}
+use Rattle.rows.proofs.Rows.{part-in, getD-zeros}
 use Rattle.transitions.specs.Table.{markAt, offsetAt, entryAt, tableTransitions}
-use Rattle.transitions.specs.Filling.{actionSet, rowTransitions, raisedSet, withTransition, withState, Extends, Filling, Placed}
+use Rattle.transitions.specs.Filling.{actionSet, rowTransitions, withTransition, withState, Extends, Filling}
 use Rattle.transitions.proofs.Writes.{extends-none, extends-one, extends-append, table-same}
 
 -- ---- by target
@@ -113,70 +103,6 @@ module _ (sets : List ℕ) (p : ℕ) where
       → Extends (transitionsTo p (a + 1) (passing 256 (actionSet sets (a + 1)))) at t₁ t₂ → Extends (rowTransitions sets p (a + 1)) i t₀ t₂
   row-extends i a at e f g = rw row-more (extends-append i _ _ f (rw e at g))
 
--- ---- a state's chain
-
--- the same number is added on both sides
-member-raised : (c x : ℕ) (f : ℕ → ℕ) (l : List ℕ) → member (c + x) (map (λ j. c + f j) l) ≡ member x (map f l)
-unfolding member
-member-raised c x f [] = refl
-member-raised c x f (j ∷ l) = rw (member-raised c x f l, same (ℕ-discrete x (f j)))
-  where
-    same : Dec (x ≡ f j) → eqb (c + x) (c + f j) ≡ eqb x (f j)
-    same (yes e) = rw (eq-eqb x (f j) e, eq-eqb (c + x) (c + f j) (omega (arith, e)))
-    same (no d) = rw (ne-eqb x (f j) d, ne-eqb (c + x) (c + f j) (λ e. d (omega (arith, e))))
-
-every-raised : (P : ℕ → Type 0) (c : ℕ) (f : ℕ → ℕ) (l : List ℕ) → Every (λ y. P (c + y)) (map f l) → Every P (map (λ j. c + f j) l)
-every-raised P c f [] e = tt
-every-raised P c f (j ∷ l) e = (e .0, every-raised P c f l (e .1))
-
-module _ (s : List ℕ) (h : Header) (g : ReadableAs s h) (p : ℕ) (l : p < h .states) (shift : ℕ) (fits : shift + h .states ≤ 256)
-    {sets : List ℕ} (e : sets ≡ rowOf 260 (raisedSet shift s h p)) where
-  -- what the sets hold: the state's transitions, with their targets raised
-  held-is : (a t : ℕ) → a ≤ 64 → t < 256 → actionSet sets a t ≡ (leb shift t && ltsOf s .transition p a (t - shift))
-  unfolding raisedSet
-  held-is a t k u =
-      ap (λ (m : List ℕ). inRow m (256 * a + t)) e ∙ inRow-of 260 _ (256 * a + t) (omega arith) ∙ go (lt-or-ge t shift)
-    where
-      beyond : (x : ℕ) → h .states ≤ x → ltsOf s .transition p a x ≡ false
-      beyond x out = ⊎-elim (λ (t : ltsOf s .transition p a x ≡ true). absurd (let k = sound s h g p a x t .target in omega (arith, k, out))) (λ f. f) (either (ltsOf s .transition p a x))
-
-      go : (t < shift) ⊎ (shift ≤ t) → member (256 * a + t) (map (λ j. shift + successor s h j) (chain s h p)) ≡ (leb shift t && ltsOf s .transition p a (t - shift))
-      go (inl low) =
-          member-keeps (λ x. shift ≤ x % 256) (256 * a + t) (map (λ j. shift + successor s h j) (chain s h p))
-          (every-raised (λ x. shift ≤ x % 256) shift (successor s h) (chain s h p)
-          (every-more (Good h) (λ y. shift ≤ (shift + y) % 256) (map (successor s h) (chain s h p)) (λ y q. let z = q .target in omega (arith, z, fits)) (good-successors s h g p l)))
-          (λ q. omega (arith, q, low))
-          ∙ ap (λ (b : Bool). b && ltsOf s .transition p a (t - shift)) (sym (lt-leb shift t low))
-      go (inr high) =
-          let split : 256 * a + t ≡ shift + (256 * a + (t - shift)) = omega (arith, high) in
-          ap (λ (x : ℕ). member x (map (λ j. shift + successor s h j) (chain s h p))) split
-          ∙ member-raised shift (256 * a + (t - shift)) (successor s h) (chain s h p)
-          ∙ ⊎-elim (λ (in-range : t - shift < h .states). sym (transition-member s h g p a (t - shift) l in-range))
-          (λ (out : h .states ≤ t - shift).
-          member-keeps (Good h) (256 * a + (t - shift)) (map (successor s h) (chain s h p)) (good-successors s h g p l) (λ q. let z = q .target in omega (arith, z, out, u))
-          ∙ sym (beyond (t - shift) out)) (lt-or-ge (t - shift) (h .states))
-          ∙ ap (λ (b : Bool). b && ltsOf s .transition p a (t - shift)) (sym (le-leb shift t high))
-
-  module _ (L : Lts) (ok : Placed (ltsOf s) L shift) (few : L .states ≤ 256) where
-    by-target : (a : ℕ) → a ≤ 64 → passing 256 (actionSet sets a) ≡ passing (L .states) (L .transition (shift + p) a)
-    by-target a k =
-        passing-shorter (L .states) 256 (actionSet sets a) few (λ t u v. held-is a t k v ∙ far t u)
-        ∙ passing-same (L .states) _ _ (λ t u. held-is a t k (omega (arith, u, few)) ∙ sym (ok .step p a t low-state))
-      where
-        low-state : p < ltsOf s .states
-        low-state = omega (arith, l, lts-states s h (g .header))
-
-        far : (t : ℕ) → L .states ≤ t → (leb shift t && ltsOf s .transition p a (t - shift)) ≡ false
-        far t u = ⊎-elim (λ (x : ltsOf s .transition p a (t - shift) ≡ true).
-            absurd (let z = sound s h g p a (t - shift) x .target in omega (arith, z, u, ok .room, lts-states s h (g .header))))
-            (λ (x : ltsOf s .transition p a (t - shift) ≡ false). rw x (and-false (leb shift t))) (either (ltsOf s .transition p a (t - shift)))
-
-    pub chain-row : (m : ℕ) → m ≤ 64 → m ≡ L .actions → rowTransitions sets (shift + p) m ≡ transitionsOf L (shift + p)
-    unfolding rowTransitions transitionsOf transitionsBy
-    chain-row m labels last =
-        concat-same m _ _ (λ a u. ap (transitionsTo (shift + p) (suc a)) (by-target (suc a) (omega arith)))
-        ∙ ap (λ (x : ℕ). concatBelow x (λ a. transitionsTo (shift + p) (suc a) (passing (L .states) (L .transition (shift + p) (suc a))))) last
-
 -- ---- by state
 
 none-yet : (t : List ℕ) → tableTransitions t 0 ≡ []
@@ -215,7 +141,7 @@ module _ (t : List ℕ) (p mark end : ℕ) (long : length t ≡ 3588) (room : p 
       let inside : 3 + p < length t = omega (arith, long) in
       getD-set-other t₁ (259 + (p + 1)) (3 + p) end 0 (λ e. omega (arith, e)) ∙ getD-set-same t (3 + p) mark 0 inside
 
-  state-offset : offsetAt (withState t p mark end) (p + 1) ≡ end
+  pub state-offset : offsetAt (withState t p mark end) (p + 1) ≡ end
   unfolding t₁
   state-offset = let inside : 259 + (p + 1) < length t₁ = omega (arith, long₁) in getD-set-same t₁ (259 + (p + 1)) end 0 inside
 

@@ -1,6 +1,8 @@
 pub mod Writes
 pub mod Codes
+pub mod Links
 pub mod Gathering
+pub mod Images
 pub mod Filling
 pub mod Entries
 pub mod Filled

@@ -1,202 +1,164 @@
--- Sheets in a table, state by state: one sheet, and two side by side. Assumes nothing.
-use Prim.Native.Nat.{ℕ, zero, suc, _+_, _-_, _≤_, _<_, max, zero-le}
-use mathlib.Core.Path.{_≡_, refl, sym, ap, _∙_, subst, subst⁻¹}
-use mathlib.Core.Bool.{Bool, true, false, cond, _&&_}
-use mathlib.Core.List.{List, _++_}
+-- Sheets in a table, state by state: one sheet under maps, one as it is, and two side by side. Assumes nothing.
+use Prim.Native.Nat.{ℕ, zero, suc, _+_, _-_, _*_, _≤_, _<_, max}
+use mathlib.Core.Path.{_≡_, refl, sym, ap, _∙_, subst}
+use mathlib.Core.Bool.{Bool, true, false, cond}
+use mathlib.Core.List.{List}
 use mathlib.Core.Logic.{⊎-elim}
 use native.Mathlib.Omega.{arith}
-use native.Mathlib.Nat.{zero-add, add-zero, add-assoc}
-use native.Mathlib.Numerals.{add-one}
-use lib.Dec.{leb, ltb}
-use lib.ListN.{length, replicate, length-append}
-use borrow.Author.Tests.{lt-ltb, le-ltb, le-leb, lt-leb}
+use native.Mathlib.Nat.{zero-add}
+use lib.Dec.{T}
+use lib.ListN.{length, replicate}
+use Rattle.lts.specs.Bounded.{passing, concatBelow}
 use Rattle.lts.specs.System.{Lts, WellFormed}
-use Rattle.lts.specs.Transitions.{transitionsBy, transitionsOf, transitionsBelow}
+use Rattle.lts.specs.Transitions.{transitionsTo, transitionsBy, transitionsOf, transitionsBelow, transitions}
 use Rattle.lts.specs.Union.{disjointUnion}
-use Rattle.lts.proofs.Union.{union-formed}
-use Rattle.lts.specs.Bounded.{passing}
+use Rattle.lts.specs.Mapped.{mapped, Sends}
+use Rattle.lts.proofs.Union.{union-formed, union-count, union-ends}
+use Rattle.lts.proofs.Mapped.{mapped-formed, mapped-ends, mapped-count, mapped-self, union-first-row, union-first-terminating, union-second-row, union-second-terminating}
 use Rattle.lts.proofs.Count.{passing-shorter}
 use Rattle.lts.proofs.Below.{either, true-T}
-use Rattle.lts.proofs.Lists.{passing-add, passing-zero, passing-same}
-use Rattle.lts.proofs.Transitions.{up-none, up-more, up-grows, by-none, by-more, by-all, to-length}
-use Rattle.rows.specs.Rows.{rowOf}
+use Rattle.lts.proofs.Lists.{passing-same, concat-same}
+use Rattle.lts.proofs.Transitions.{up-grows}
+use Rattle.rows.specs.Rows.{inRow, rowOf}
+use Rattle.rows.proofs.Rows.{inRow-of, getD-zeros}
 use Rattle.encoding.specs.declared.Header.{Header}
-use Rattle.encoding.specs.Records.{stateRecord}
 use Rattle.encoding.specs.Checked.{ReadableAs}
 use Rattle.encoding.specs.Denotation.{ltsOf}
-use Rattle.encoding.proofs.Denotation.{lts-states, lts-actions, lts-terminating, well-formed, mark-byte}
+use Rattle.encoding.proofs.Denotation.{lts-states, lts-actions, lts-ends, well-formed}
 use Rattle.encoding.proofs.Counting.{all-count}
-use Rattle.transitions.specs.Table.{Holds}
-use Rattle.transitions.specs.Filling.{rowTransitions, raisedSet, withState, withCounts, Extends, Filling, Placed, Loading}
-use Rattle.transitions.proofs.Filling.{chain-row, filling-start, filling-room, filling-more}
+use Rattle.transitions.specs.Table.{offsetAt, Holds}
+use Rattle.transitions.specs.Maps.{stateTo, actionTo, Raises, Within}
+use Rattle.transitions.specs.Filling.{actionSet, rowTransitions, withState, withCounts, Extends, Filling}
+use Rattle.transitions.specs.Loading.{rowImage, markImage, Image, Images, Loading}
+use Rattle.transitions.proofs.Filling.{filling-start, filling-room, filling-more, state-offset}
 use Rattle.transitions.proofs.Filled.{filled}
+use Rattle.transitions.proofs.Images.{row-is, mark-is}
 
 -- ---- one state more
 
-module _ {L : Lts} {s : List ℕ} {h : Header} {shift m p from : ℕ} {t : List ℕ} (g : Loading L s h shift m p from t) (l : p < h .states) where
-  states-is : ltsOf s .states ≡ h .states
-  states-is = lts-states s h (g .readable .header)
-
-  pub loading-fits : shift + h .states ≤ 256
-  loading-fits = omega (arith, g .placed .room, g .few, states-is)
-
-  pub loading-state : shift + p < 256
-  loading-state = omega (arith, loading-fits, l)
-
-  row : {sets : List ℕ} → sets ≡ rowOf 260 (raisedSet shift s h p) → rowTransitions sets (shift + p) m ≡ transitionsOf L (shift + p)
-  row e = chain-row s h (g .readable) p l shift loading-fits e L (g .placed) (g .few) m (g .labels) (g .last)
-
-  pub loading-room : {sets : List ℕ} → sets ≡ rowOf 260 (raisedSet shift s h p) → from + length (rowTransitions sets (shift + p) m) ≤ 1024
-  loading-room e = filling-room (g .filling) (row e) (omega (arith, g .placed .room, states-is, l)) (g .size)
-
-  pub loading-more : {sets u : List ℕ} {r x : ℕ} → sets ≡ rowOf 260 (raisedSet shift s h p) → r ≡ from + length (rowTransitions sets (shift + p) m)
-      → Extends (rowTransitions sets (shift + p) m) from t u → x ≡ stateRecord s h p .mark → Loading L s h shift m (p + 1) r (withState u (shift + p) x r)
-  loading-more {u = u} {r} {x} e k w is = record {
-    readable = g .readable;
-    placed = g .placed;
-    few = g .few;
-    labels = g .labels;
-    last = g .last;
-    size = g .size;
-    filling = subst (λ (q : ℕ). Filling L q r (withState u (shift + p) x r)) (add-assoc shift p 1)
-        (filling-more (g .filling) (row e) loading-state (loading-room e) k w (is ∙ mark-byte s h (g .readable) p l ∙ ap (λ (b : Bool). cond b 1 0) (sym (g .placed .mark p low))));
+module _ {L : Lts} {s : List ℕ} {h : Header} {maps : List ℕ} {m i : ℕ} {t : List ℕ} (g : Loading L s h maps m i t) where
+  pub loading-within : Within h maps
+  loading-within = record {
+    state = λ p l. let k = g .sends .state p (omega (arith, l, lts-states s h (g .readable .header))) in omega (arith, k, g .few);
+    action = λ a l k. let z = g .sends .action a l (omega (arith, k, lts-actions s h (g .readable .header))) .1 in omega (arith, z, g .last, g .labels);
   }
-    where
-      low : p < ltsOf s .states
-      low = omega (arith, l, states-is)
 
--- the numbers that are used
-pub loading-most : {L : Lts} {s : List ℕ} {h : Header} {shift m p from : ℕ} {t : List ℕ} → Loading L s h shift m p from t → p ≤ h .states → from ≤ 1024
-loading-most {L} {s} {h} {shift} {p = p} g l =
-    let up : shift + p ≤ L .states = omega (arith, g .placed .room, lts-states s h (g .readable .header), l) in
-    omega (arith, g .filling .place, up-grows L (L .states) (shift + p) up, g .size)
+  -- the numbers that are used
+  pub loading-most : i ≤ L .states → offsetAt t i ≤ 1024
+  loading-most l = omega (arith, g .filling .place, up-grows L (L .states) i l, g .size)
 
--- ---- one sheet
+  module _ (im : Image L s maps i) where
+    pub image-below : i < 256
+    image-below = omega (arith, im .below, g .few)
 
-placed-self : (M : Lts) → Placed M M 0
-placed-self M = record {
-  room = omega arith;
-  labels = omega arith;
-  mark = λ p l. ap (M .terminating) (zero-add p);
-  step = λ p a t l. rw (zero-add, le-leb 0 t zero-le, sub-none t);
-}
-  where
-    sub-none : (t : ℕ) → t - 0 ≡ t
-    sub-none t = omega arith
+    abbrev M : Lts
+    M = mapped (L .states) (L .actions) (stateTo maps) (actionTo maps) (ltsOf s)
+
+    -- L's row leads to states of L alone
+    far : (a j : ℕ) → L .states ≤ j → L .transition i a j ≡ false
+    unfolding mapped
+    far a j l =
+        let wf = mapped-formed (well-formed s h (g .readable)) (g .sends) in
+        im .step a j ∙ ⊎-elim (λ (x : M .transition i a j ≡ true). absurd (let z = wf .target i a j (true-T _ x) in omega (arith, z, l))) (λ x. x) (either (M .transition i a j))
+
+    module _ {sets : List ℕ} (e : sets ≡ rowOf 260 (rowImage maps s h i)) where
+      held-is : (a j : ℕ) → a ≤ 64 → j < 256 → actionSet sets a j ≡ L .transition i a j
+      held-is a j k u =
+          ap (λ (l : List ℕ). inRow l (256 * a + j)) e ∙ inRow-of 260 _ (256 * a + j) (omega arith)
+          ∙ row-is s h (g .readable) (L .states) (L .actions) maps loading-within i a j u ∙ sym (im .step a j)
+
+      by-target : (a : ℕ) → a ≤ 64 → passing 256 (actionSet sets a) ≡ passing (L .states) (L .transition i a)
+      by-target a k =
+          passing-shorter (L .states) 256 (actionSet sets a) (g .few) (λ j u v. held-is a j k v ∙ far a j u)
+          ∙ passing-same (L .states) _ _ (λ j u. held-is a j k (omega (arith, u, g .few)))
+
+      row : rowTransitions sets i m ≡ transitionsOf L i
+      unfolding rowTransitions transitionsOf transitionsBy
+      row =
+          concat-same m _ _ (λ a u. ap (transitionsTo i (suc a)) (by-target (suc a) (omega (arith, u, g .labels))))
+          ∙ ap (λ (x : ℕ). concatBelow x (λ a. transitionsTo i (suc a) (passing (L .states) (L .transition i (suc a))))) (g .last)
+
+      pub loading-room : offsetAt t i + length (rowTransitions sets i m) ≤ 1024
+      loading-room = filling-room (g .filling) row (im .below) (g .size)
+
+      pub loading-more : {u : List ℕ} {r x : ℕ} → r ≡ offsetAt t i + length (rowTransitions sets i m)
+          → Extends (rowTransitions sets i m) (offsetAt t i) t u → x ≡ cond (markImage maps s h i) 1 0 → Loading L s h maps m (i + 1) (withState u i x r)
+      loading-more {u} {r} {x} k w is = record {
+        readable = g .readable;
+        sends = g .sends;
+        few = g .few;
+        labels = g .labels;
+        last = g .last;
+        size = g .size;
+        filling = subst (λ (y : ℕ). Filling L (i + 1) y (withState u i x r)) (sym (state-offset u i x r (w .long ∙ g .filling .long) image-below))
+            (filling-more (g .filling) row image-below loading-room k w mark);
+      }
+        where
+          mark : x ≡ cond (L .terminating i) 1 0
+          mark = is ∙ ap (λ (b : Bool). cond b 1 0) (mark-is s h (g .readable) (L .states) (L .actions) maps i ∙ sym (im .mark))
+
+-- nothing is loaded yet
+zero-filling : (L : Lts) → Filling L 0 (offsetAt (replicate 3588 0) 0) (replicate 3588 0)
+zero-filling L = subst (λ (y : ℕ). Filling L 0 y (replicate 3588 0)) (sym (getD-zeros 3588 259)) (filling-start L)
+
+-- ---- a sheet's system
 
 module _ (s : List ℕ) (h : Header) (g : ReadableAs s h) where
-  -- no state from n on terminates
-  sheet-ends : (p : ℕ) → ltsOf s .states ≤ p → ltsOf s .terminating p ≡ false
-  sheet-ends p l = let z = le-ltb p (h .states) (omega (arith, l, lts-states s h (g .header))) in rw (lts-terminating s h (g .header) p, z)
-
-  sheet-size : length (transitionsBelow (ltsOf s) (ltsOf s .states)) ≡ h .transitions
+  sheet-size : length (transitions (ltsOf s)) ≡ h .transitions
+  unfolding transitions
   sheet-size = ap (λ (n : ℕ). length (transitionsBelow (ltsOf s) n)) (lts-states s h (g .header)) ∙ all-count s h g
 
-  pub sheet-start : Loading (ltsOf s) s h 0 (h .actions) 0 0 (replicate 3588 0)
-  sheet-start =
-      let b = g .recorded .sized .bounds in
-      record {
-        readable = g;
-        placed = placed-self (ltsOf s);
-        few = omega (arith, lts-states s h (g .header), b .states);
-        labels = b .actions;
-        last = sym (lts-actions s h (g .header));
-        size = omega (arith, sheet-size, b .transitions);
-        filling = filling-start (ltsOf s);
-      }
+  -- ---- under maps
 
-  pub sheet-filled : {k : ℕ} {t : List ℕ} → Loading (ltsOf s) s h 0 (h .actions) (h .states) k t → Holds (ltsOf s) (withCounts t (h .states) (h .actions) k)
-  sheet-filled {k} {t} f =
-      let b = g .recorded .sized .bounds in
-      filled (f .filling) (h .states) (h .actions) (well-formed s h g) sheet-ends (b .state) (b .states) (b .actions)
-      (loading-most f (omega arith)) (zero-add (h .states)) (sym (lts-states s h (g .header))) (sym (lts-actions s h (g .header)))
+  module _ (maps : List ℕ) (n m : ℕ) (ok : Sends n m (stateTo maps) (actionTo maps) (ltsOf s)) (few : n ≤ 256) (labels : m ≤ 64) where
+    abbrev N : Lts
+    N = mapped n m (stateTo maps) (actionTo maps) (ltsOf s)
 
--- ---- as many transitions as the system that was placed has
+    pub mapped-start : Loading N s h maps m 0 (replicate 3588 0)
+    unfolding mapped transitions
+    mapped-start = record {
+      readable = g;
+      sends = ok;
+      few = few;
+      labels = labels;
+      last = refl;
+      size = let c = mapped-count n m (stateTo maps) (actionTo maps) (ltsOf s) (well-formed s h g) in omega (arith, c, sheet-size, g .recorded .sized .bounds .transitions);
+      filling = zero-filling N;
+    }
 
-module _ (M L : Lts) (shift : ℕ) (ok : Placed M L shift) (wf : WellFormed M) where
-  by-target : (p a : ℕ) → p < M .states → length (passing (L .states) (L .transition (shift + p) a)) ≡ length (passing (M .states) (M .transition p a))
-  by-target p a l =
-      let f : ℕ → Bool = L .transition (shift + p) a in
-      let split : L .states ≡ shift + (L .states - shift) = omega (arith, ok .room) in
-      ap (λ (n : ℕ). length (passing n f)) split
-      ∙ passing-add shift (L .states - shift) f
-      ∙ ap (λ (x : ℕ). x + length (passing (L .states - shift) (λ t. f (shift + t)))) (passing-zero shift f below)
-      ∙ zero-add _
-      ∙ ap length (passing-same (L .states - shift) _ (M .transition p a) (λ t u. above t)
-      ∙ passing-shorter (M .states) (L .states - shift) (M .transition p a) (omega (arith, ok .room)) far)
-    where
-      below : (t : ℕ) → t < shift → L .transition (shift + p) a t ≡ false
-      below t u = ok .step p a t l ∙ ap (λ (b : Bool). b && M .transition p a (t - shift)) (lt-leb shift t u)
+    pub mapped-images : Images N s maps 0 n
+    unfolding mapped
+    mapped-images i l u = record { below = u; mark = refl; step = λ a j. refl }
 
-      above : (t : ℕ) → L .transition (shift + p) a (shift + t) ≡ M .transition p a t
-      above t =
-          let back : shift + t - shift ≡ t = omega arith in
-          ok .step p a (shift + t) l
-          ∙ ap (λ (b : Bool). b && M .transition p a (shift + t - shift)) (le-leb shift (shift + t) (omega arith)) ∙ ap (M .transition p a) back
+    pub mapped-filled : {t : List ℕ} → Loading N s h maps m n t → Holds N (withCounts t n m (offsetAt t n))
+    unfolding mapped
+    mapped-filled f =
+        let b = g .recorded .sized .bounds in
+        let low = ok .state 0 (omega (arith, lts-states s h (g .header), b .state)) in
+        filled (f .filling) n m (mapped-formed (well-formed s h g) ok) (mapped-ends ok) (omega (arith, low)) few labels (loading-most f (omega arith)) refl refl refl
 
-      far : (t : ℕ) → M .states ≤ t → t < L .states - shift → M .transition p a t ≡ false
-      far t u v = ⊎-elim (λ (x : M .transition p a t ≡ true). absurd (let z = wf .target p a t (true-T _ x) in omega (arith, z, u))) (λ x. x) (either (M .transition p a t))
+  -- ---- as it is
 
-  by-action : (p a : ℕ) → p < M .states → a ≤ M .actions → length (transitionsBy L (shift + p) a) ≡ length (transitionsBy M p a)
-  by-action p zero l u = rw (by-none, by-none)
-  by-action p (suc a) l u =
-      let f = by-action p a l (omega arith) in
-      let g = by-target p (a + 1) l in
-      rw (← add-one, by-more, by-more, length-append, length-append, to-length, to-length) (omega (arith, f, g))
+  module _ (maps : List ℕ) (r : Raises (h .states) (h .actions) 0 maps) where
+    same-state : (p : ℕ) → p < ltsOf s .states → stateTo maps p ≡ p
+    same-state p l = r .state p (omega (arith, l, lts-states s h (g .header))) ∙ zero-add p
 
-  -- no other action leads on
-  no-action : (p d : ℕ) → p < M .states → length (transitionsBy L (shift + p) (M .actions + d)) ≡ length (transitionsBy L (shift + p) (M .actions))
-  no-action p zero l = rw add-zero
-  no-action p (suc d) l =
-      let f = no-action p d l in
-      let g = by-target p (M .actions + d + 1) l ∙ passing-zero (M .states) (M .transition p (M .actions + d + 1)) none′ in
-      let e : M .actions + suc d ≡ M .actions + d + 1 = omega arith in
-      rw (e, by-more, length-append, to-length) (omega (arith, f, g))
-    where
-      none′ : (t : ℕ) → t < M .states → M .transition p (M .actions + d + 1) t ≡ false
-      none′ t u = ⊎-elim (λ (x : M .transition p (M .actions + d + 1) t ≡ true). absurd (let z = wf .action p (M .actions + d + 1) t (true-T _ x) .1 in omega (arith, z))) (λ x. x) (either (M .transition p (M .actions + d + 1) t))
+    same-action : (a : ℕ) → 1 ≤ a → a ≤ ltsOf s .actions → actionTo maps a ≡ a
+    same-action a l k = r .action a l (omega (arith, k, lts-actions s h (g .header)))
 
-  by-state : (p : ℕ) → p < M .states → length (transitionsOf L (shift + p)) ≡ length (transitionsOf M p)
-  by-state p l =
-      let split : M .actions + (L .actions - M .actions) ≡ L .actions = omega (arith, ok .labels) in
-      sym (ap length (by-all L (shift + p) (M .actions + (L .actions - M .actions)) split))
-      ∙ no-action p (L .actions - M .actions) l ∙ by-action p (M .actions) l (omega arith) ∙ ap length (by-all M p (M .actions) refl)
+    pub same-sends : Sends (h .states) (h .actions) (stateTo maps) (actionTo maps) (ltsOf s)
+    same-sends = record {
+      state = λ p l. omega (arith, same-state p l, l, lts-states s h (g .header));
+      action = λ a l k. let e = same-action a l k in (omega (arith, e, l), omega (arith, e, k, lts-actions s h (g .header)));
+    }
 
-  pub placed-count : (p : ℕ) → p ≤ M .states → length (transitionsBelow L (shift + p)) ≡ length (transitionsBelow L shift) + length (transitionsBelow M p)
-  placed-count zero l = rw (add-zero, up-none) (omega arith)
-  placed-count (suc p) l =
-      let e : shift + suc p ≡ shift + p + 1 = omega arith in
-      let f = placed-count p (omega arith) in
-      let g = by-state p l in
-      let h = ap (λ (q : ℕ). length (transitionsBelow M q)) (sym (add-one p)) in
-      rw (e, up-more, length-append) (omega (arith, f, g, h, ap length (up-more M p) ∙ length-append (transitionsBelow M p) (transitionsOf M p)))
+    pub same-system : mapped (h .states) (h .actions) (stateTo maps) (actionTo maps) (ltsOf s) ≡ ltsOf s
+    same-system =
+        ap (λ (n : ℕ). mapped n (h .actions) (stateTo maps) (actionTo maps) (ltsOf s)) (sym (lts-states s h (g .header)))
+        ∙ ap (λ (m : ℕ). mapped (ltsOf s .states) m (stateTo maps) (actionTo maps) (ltsOf s)) (sym (lts-actions s h (g .header)))
+        ∙ mapped-self (ltsOf s) (well-formed s h g) (lts-ends s h (g .header)) (stateTo maps) (actionTo maps) same-state same-action
 
 -- ---- two sheets
-
-module _ (L M : Lts) where
-  placed-first : Placed L (disjointUnion L M) 0
-  unfolding disjointUnion
-  placed-first = record {
-    room = omega arith;
-    labels = omega arith;
-    mark = λ p l. rw (zero-add, lt-ltb p (L .states) l);
-    step = λ p a t l. rw (zero-add, lt-ltb p (L .states) l, le-leb 0 t zero-le, sub-none t);
-  }
-    where
-      sub-none : (t : ℕ) → t - 0 ≡ t
-      sub-none t = omega arith
-
-  placed-second : Placed M (disjointUnion L M) (L .states)
-  unfolding disjointUnion
-  placed-second = record {
-    room = omega arith;
-    labels = omega arith;
-    mark = λ p l. rw (le-ltb (L .states + p) (L .states) (omega arith), back p);
-    step = λ p a t l. rw (le-ltb (L .states + p) (L .states) (omega arith), back p);
-  }
-    where
-      back : (p : ℕ) → L .states + p - L .states ≡ p
-      back p = omega arith
 
 module _ (s u : List ℕ) (h g : Header) (first : ReadableAs s h) (second : ReadableAs u g) (room : h .states + g .states ≤ 256) (space : h .transitions + g .transitions ≤ 1024) where
   abbrev U : Lts
@@ -211,49 +173,79 @@ module _ (s u : List ℕ) (h g : Header) (first : ReadableAs s h) (second : Read
   union-actions = rw (lts-actions s h (first .header), lts-actions u g (second .header))
 
   union-size : length (transitionsBelow U (U .states)) ≡ h .transitions + g .transitions
-  unfolding disjointUnion
+  unfolding transitions
   union-size =
-      let one = placed-count (ltsOf s) U 0 (placed-first (ltsOf s) (ltsOf u)) (well-formed s h first) (ltsOf s .states) (omega arith) in
-      let two = placed-count (ltsOf u) U (ltsOf s .states) (placed-second (ltsOf s) (ltsOf u)) (well-formed u g second) (ltsOf u .states) (omega arith) in
-      let low = ap (λ (n : ℕ). length (transitionsBelow U n)) (zero-add (ltsOf s .states)) in
-      let no-one = ap length (up-none U) in
-      omega (arith, one, two, low, no-one, sheet-size s h first, sheet-size u g second)
+      let c = union-count (well-formed s h first) (well-formed u g second) in
+      omega (arith, c, sheet-size s h first, sheet-size u g second)
 
-  union-ends : (p : ℕ) → U .states ≤ p → U .terminating p ≡ false
-  unfolding disjointUnion
-  union-ends p l =
-      let low : ltsOf s .states ≤ p = omega (arith, l) in
-      rw (le-ltb p (ltsOf s .states) low) (sheet-ends u g second (p - ltsOf s .states) (omega (arith, l)))
+  -- the first sheet's states are as they are
+  module _ {own : List ℕ} (r : Raises (h .states) (h .actions) 0 own) where
+    pub both-start : {m : ℕ} → m ≡ max (h .actions) (g .actions) → Loading U s h own m 0 (replicate 3588 0)
+    both-start e =
+        let b = first .recorded .sized .bounds in
+        let c = second .recorded .sized .bounds in
+        let o = same-sends s h first own r in
+        record {
+          readable = first;
+          sends = record {
+            state = λ p l. let k = o .state p l in omega (arith, k, union-states);
+            action = λ a l k. let z = o .action a l k in (z .0, let y = z .1 in omega (arith, y, union-actions));
+          };
+          few = omega (arith, union-states, room);
+          labels = omega (arith, e, b .actions, c .actions);
+          last = e ∙ sym union-actions;
+          size = omega (arith, union-size, space);
+          filling = zero-filling U;
+        }
 
-  pub both-start : {m : ℕ} → m ≡ max (h .actions) (g .actions) → Loading U s h 0 m 0 0 (replicate 3588 0)
-  both-start e =
-      let b = first .recorded .sized .bounds in
-      let c = second .recorded .sized .bounds in
-      record {
-        readable = first;
-        placed = placed-first (ltsOf s) (ltsOf u);
-        few = omega (arith, union-states, room);
-        labels = omega (arith, e, b .actions, c .actions);
-        last = e ∙ sym union-actions;
-        size = omega (arith, union-size, space);
-        filling = filling-start U;
-      }
+    pub first-images : Images U s own 0 (h .states)
+    first-images i l k =
+        let low : i < ltsOf s .states = omega (arith, k, lts-states s h (first .header)) in
+        record {
+          below = omega (arith, k, union-states);
+          mark = union-first-terminating (U .states) (U .actions) (stateTo own) (actionTo own) (ltsOf s) (ltsOf u) (same-state s h first own r) i low;
+          step = λ a j. union-first-row (U .states) (U .actions) (stateTo own) (actionTo own) (ltsOf s) (ltsOf u) (well-formed s h first)
+              (same-state s h first own r) (same-action s h first own r) i a j low;
+        }
 
-  pub both-middle : {m k : ℕ} {t : List ℕ} → Loading U s h 0 m (h .states) k t → Loading U u g (h .states) m 0 k t
-  both-middle {k = k} {t} f =
-      let e : 0 + h .states ≡ h .states + 0 = omega arith in
-      record {
-        readable = second;
-        placed = subst (Placed (ltsOf u) U) (lts-states s h (first .header)) (placed-second (ltsOf s) (ltsOf u));
-        few = f .few;
-        labels = f .labels;
-        last = f .last;
-        size = f .size;
-        filling = subst (λ (p : ℕ). Filling U p k t) e (f .filling);
-      }
+  -- the second's are raised behind them
+  module _ {behind : List ℕ} (r : Raises (g .states) (g .actions) (h .states) behind) where
+    raised-state : (p : ℕ) → p < ltsOf u .states → stateTo behind p ≡ ltsOf s .states + p
+    raised-state p l = r .state p (omega (arith, l, lts-states u g (second .header))) ∙ ap (λ (n : ℕ). n + p) (sym (lts-states s h (first .header)))
 
-  pub both-filled : {m k : ℕ} {t : List ℕ} → Loading U u g (h .states) m (g .states) k t → Holds U (withCounts t (h .states + g .states) m k)
-  both-filled {m} {k} {t} f =
-      let b = first .recorded .sized .bounds in
-      filled (f .filling) (h .states + g .states) m (union-formed (ltsOf s) (ltsOf u) (well-formed s h first) (well-formed u g second)) union-ends
-      (omega (arith, b .state)) room (f .labels) (loading-most f (omega arith)) refl (sym union-states) (f .last)
+    raised-action : (a : ℕ) → 1 ≤ a → a ≤ ltsOf u .actions → actionTo behind a ≡ a
+    raised-action a l k = r .action a l (omega (arith, k, lts-actions u g (second .header)))
+
+    pub both-middle : {own : List ℕ} {m : ℕ} {t : List ℕ} → Loading U s h own m (h .states) t → Loading U u g behind m (h .states) t
+    both-middle f = record {
+      readable = second;
+      sends = record {
+        state = λ p l. let e = raised-state p l in omega (arith, e, l, union-states, lts-states s h (first .header), lts-states u g (second .header));
+        action = λ a l k. let e = raised-action a l k in (omega (arith, e, l), omega (arith, e, k, union-actions, lts-actions u g (second .header)));
+      };
+      few = f .few;
+      labels = f .labels;
+      last = f .last;
+      size = f .size;
+      filling = f .filling;
+    }
+
+    pub second-images : Images U u behind (h .states) (h .states + g .states)
+    second-images i l k =
+        let low : ltsOf s .states ≤ i = omega (arith, l, lts-states s h (first .header)) in
+        let high : i < ltsOf s .states + ltsOf u .states = omega (arith, k, lts-states s h (first .header), lts-states u g (second .header)) in
+        record {
+          below = omega (arith, k, union-states);
+          mark = union-second-terminating (U .states) (U .actions) (stateTo behind) (actionTo behind) (ltsOf s) (ltsOf u) raised-state i low high;
+          step = λ a j. union-second-row (U .states) (U .actions) (stateTo behind) (actionTo behind) (ltsOf s) (ltsOf u) (well-formed u g second)
+              raised-state raised-action i a j low;
+        }
+
+    pub both-filled : {m : ℕ} {t : List ℕ} → Loading U u g behind m (h .states + g .states) t
+        → Holds U (withCounts t (h .states + g .states) m (offsetAt t (h .states + g .states)))
+    unfolding disjointUnion
+    both-filled f =
+        let b = first .recorded .sized .bounds in
+        filled (f .filling) (h .states + g .states) _ (union-formed (ltsOf s) (ltsOf u) (well-formed s h first) (well-formed u g second))
+        (union-ends (ltsOf s) (ltsOf u) (lts-ends u g (second .header)))
+        (omega (arith, b .state)) room (f .labels) (loading-most f (omega (arith, union-states))) refl (sym union-states) (f .last)

@@ -1,23 +1,14 @@
 -- What the functions that fill a table say of each other.
-use Prim.Native.Nat.{ℕ, suc, _+_, _-_, _*_, _≤_, _<_}
+use Prim.Native.Nat.{ℕ, suc, _+_, _*_, _≤_, _<_}
 use mathlib.Core.Path.{_≡_}
-use mathlib.Core.Bool.{Bool, cond, _&&_}
-use mathlib.Core.List.{List, _++_, map}
-use lib.Dec.{leb}
+use mathlib.Core.Bool.{Bool, cond}
+use mathlib.Core.List.{List, _++_}
 use lib.ListN.{length, getD, set}
 use Rattle.lts.specs.Bounded.{passing, concatBelow}
 use Rattle.lts.specs.System.{Lts}
 use Rattle.lts.specs.Transitions.{Transition, transitionsTo, transitionsBelow}
-use Rattle.encoding.specs.declared.Header.{Header}
-use Rattle.encoding.specs.Encoding.{chain, member, successor}
-use Rattle.encoding.specs.Checked.{ReadableAs}
-use Rattle.encoding.specs.Denotation.{ltsOf}
 use Rattle.rows.specs.Rows.{inRow}
 use Rattle.transitions.specs.Table.{tableTransitions, markAt, offsetAt}
-
--- the actions and targets of state p's chain, each target raised by `shift`, as one number
-unfoldable pub raisedSet : ℕ → List ℕ → Header → ℕ → ℕ → Bool
-raisedSet shift s h p x = member x (map (λ j. shift + successor s h j) (chain s h p))
 
 -- in a row that holds a set of 256 states for each action from 0 to 64: the set of action a
 abbrev pub actionSet : List ℕ → ℕ → ℕ → Bool
@@ -50,20 +41,3 @@ pub record Filling (L : Lts) (p at : ℕ) (t : List ℕ) : Type 0 where
   pub list : tableTransitions t at ≡ transitionsBelow L p
   pub mark : (q : ℕ) → q < p → markAt t q ≡ cond (L .terminating q) 1 0
   pub offset : (q : ℕ) → q ≤ p → offsetAt t q ≡ length (transitionsBelow L q)
-
--- the states of M stand in L from `shift` on, with their marks and their transitions
-pub record Placed (M L : Lts) (shift : ℕ) : Type 0 where
-  pub room : shift + M .states ≤ L .states
-  pub labels : M .actions ≤ L .actions
-  pub mark : (p : ℕ) → p < M .states → L .terminating (shift + p) ≡ M .terminating p
-  pub step : (p a t : ℕ) → p < M .states → L .transition (shift + p) a t ≡ (leb shift t && M .transition p a (t - shift))
-
--- the sheet s, whose states stand in L from `shift` on, is in the table up to its state p; m is the number of L's actions
-pub record Loading (L : Lts) (s : List ℕ) (h : Header) (shift m p from : ℕ) (t : List ℕ) : Type 0 where
-  pub readable : ReadableAs s h
-  pub placed : Placed (ltsOf s) L shift
-  pub few : L .states ≤ 256
-  pub labels : m ≤ 64
-  pub last : m ≡ L .actions
-  pub size : length (transitionsBelow L (L .states)) ≤ 1024
-  pub filling : Filling L (shift + p) from t

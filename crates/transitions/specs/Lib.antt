@@ -1,2 +1,4 @@
 pub mod Table
+pub mod Maps
 pub mod Filling
+pub mod Loading

@@ -1,21 +1,30 @@
 // Transition tables: a system in one array, filled from a sheet, and the lookups in it. The crates above work on tables and on no sheet.
 ghost use mathlib.Core.Path.{_≡_};
-ghost use mathlib.Core.Bool.{_||_};
-ghost use Prim.Native.Nat.{_+_, _*_, _<_, _≤_, max};
+ghost use mathlib.Core.Bool.{cond, _||_};
+ghost use mathlib.Core.List.{List};
+ghost use Prim.Native.Nat.{ℕ, _+_, _*_, _<_, _≤_, max};
 ghost use lib.ListN.{length, drop};
 ghost use Rattle.lts.specs.Bounded.{passing};
 ghost use Rattle.lts.specs.System.{Lts, into};
 ghost use Rattle.lts.specs.Union.{disjointUnion};
+ghost use Rattle.lts.specs.Mapped.{mapped, Sends};
 ghost use Rattle.lts.specs.Transitions.{transitionsTo};
 ghost use Rattle.rows.specs.Rows.{inRow, rowOf, rowWords};
 ghost use Rattle.encoding.specs.Checked.{Recorded, ReadableAs};
 ghost use Rattle.encoding.specs.Denotation.{ltsOf};
 ghost use Rattle.transitions.specs.Table.{statesOf, actionsOf, countOf, markAt, offsetAt, sourceAt, actionAt, targetAt};
 ghost use Rattle.transitions.specs.Table.{enters, tableLts, Formed, Holds};
-ghost use Rattle.transitions.specs.Filling.{actionSet, rowTransitions, raisedSet, withTransition, withState, withCounts};
-ghost use Rattle.transitions.specs.Filling.{Extends, Loading};
+ghost use Rattle.transitions.specs.Maps.{stateTo, actionTo, Raises, Within, Linked, firstTo, nextTo};
+ghost use Rattle.transitions.specs.Filling.{actionSet, rowTransitions, withTransition, withState, withCounts, Extends};
+ghost use Rattle.transitions.specs.Loading.{chainImage, rowImage, markImage, Image, Images, Loading};
 
 pub type Table = [u16; 3588];
+
+// Where the states and actions of a sheet go: state p to number p of it, action a to number 256 + a.
+pub type Maps = [u16; 321];
+
+// The states that go to each state: the first that goes to state i is number i, the next after state p number 256 + p; 256 where there is none.
+type Links = [u16; 512];
 
 // Where its parts start.
 const MARKS: usize = 3;
@@ -28,31 +37,25 @@ const ACTIONS: usize = 1540;
 
 const TARGETS: usize = 2564;
 
-fn wide(x: u16) -> usize
-    ensures { λ r. ⌜ (r ≡ x) × (r < 65536) ⌝ }
-{
-    x as usize
-}
-
 // The number of states.
 pub fn states(table: &Table) -> usize
     ensures { λ r. ⌜ (r ≡ statesOf (now (table .entry))) × (r < 65536) ⌝ }
 {
-    wide(table[0])
+    rows::wide(table[0])
 }
 
 // The number of actions.
 pub fn actions(table: &Table) -> usize
     ensures { λ r. ⌜ (r ≡ actionsOf (now (table .entry))) × (r < 65536) ⌝ }
 {
-    wide(table[1])
+    rows::wide(table[1])
 }
 
 // The number of transitions.
 pub fn count(table: &Table) -> usize
     ensures { λ r. ⌜ (r ≡ countOf (now (table .entry))) × (r < 65536) ⌝ }
 {
-    wide(table[2])
+    rows::wide(table[2])
 }
 
 // The end mark of state p.
@@ -60,7 +63,7 @@ pub fn mark(table: &Table, p: usize) -> usize
     requires { ⌜ p < 256 ⌝ }
     ensures { λ r. ⌜ (r ≡ markAt (now (table .entry)) p) × (r < 65536) ⌝ }
 {
-    wide(table[MARKS + p])
+    rows::wide(table[MARKS + p])
 }
 
 // The number of the first transition of state p, the end of the row before.
@@ -68,7 +71,7 @@ pub fn offset(table: &Table, p: usize) -> usize
     requires { ⌜ p < 257 ⌝ }
     ensures { λ r. ⌜ (r ≡ offsetAt (now (table .entry)) p) × (r < 65536) ⌝ }
 {
-    wide(table[OFFSETS + p])
+    rows::wide(table[OFFSETS + p])
 }
 
 // The state that transition i leaves.
@@ -76,7 +79,7 @@ pub fn source(table: &Table, i: usize) -> usize
     requires { ⌜ i < 1024 ⌝ }
     ensures { λ r. ⌜ (r ≡ sourceAt (now (table .entry)) i) × (r < 65536) ⌝ }
 {
-    wide(table[SOURCES + i])
+    rows::wide(table[SOURCES + i])
 }
 
 // Its action.
@@ -84,7 +87,7 @@ pub fn action(table: &Table, i: usize) -> usize
     requires { ⌜ i < 1024 ⌝ }
     ensures { λ r. ⌜ (r ≡ actionAt (now (table .entry)) i) × (r < 65536) ⌝ }
 {
-    wide(table[ACTIONS + i])
+    rows::wide(table[ACTIONS + i])
 }
 
 // Its target.
@@ -92,7 +95,7 @@ pub fn target(table: &Table, i: usize) -> usize
     requires { ⌜ i < 1024 ⌝ }
     ensures { λ r. ⌜ (r ≡ targetAt (now (table .entry)) i) × (r < 65536) ⌝ }
 {
-    wide(table[TARGETS + i])
+    rows::wide(table[TARGETS + i])
 }
 
 // Writes transition i.
@@ -167,68 +170,190 @@ fn put_row(table: &mut Table, p: usize, m: usize, sets: &[u64; 260], from: usize
     at
 }
 
-// The actions and targets of state p's chain, each target raised by `shift`, as the members 256 * a + t.
-fn successor_sets(s: &[u8], h: encoding::Header, p: usize, shift: usize) -> [u64; 260]
-    requires { ⌜ (Recorded (now s) h) × (p < h .states) × (shift + h .states ≤ 256) ⌝ }
-    ensures { λ r. ⌜ r ≡ rowOf 260 (raisedSet shift (now (s .entry)) h p) ⌝ }
+// The state that p goes to.
+fn state_to(maps: &Maps, p: usize) -> usize
+    requires { ⌜ p < 256 ⌝ }
+    ensures { λ r. ⌜ (r ≡ stateTo (now (maps .entry)) p) × (r < 65536) ⌝ }
 {
-    let mut sets = [0u64; 260];
+    rows::wide(maps[p])
+}
+
+// The action that a goes to.
+fn action_to(maps: &Maps, a: usize) -> usize
+    requires { ⌜ a ≤ 64 ⌝ }
+    ensures { λ r. ⌜ (r ≡ actionTo (now (maps .entry)) a) × (r < 65536) ⌝ }
+{
+    rows::wide(maps[256 + a])
+}
+
+// Lets n states go to the states from `shift` on.
+fn raise_states(maps: &mut Maps, n: usize, shift: usize)
+    requires { ⌜ (length (now maps) ≡ 321) × (shift + n ≤ 256) ⌝ }
+    ensures { λ _. ⌜ Raises n 0 shift (now (maps .exit)) ⌝ }
+{
+    let mut p = 0;
+    while p < n {
+        maps[p] = (shift + p) as u16;
+        p += 1;
+    }
+}
+
+// Lets the actions 1 to m be as they are.
+fn keep_actions(maps: &mut Maps, m: usize)
+    requires { ⌜ (length (now maps) ≡ 321) × (m ≤ 64) ⌝ }
+    ensures { λ _. ⌜ ((n shift : ℕ) → n ≤ 256 → Raises n 0 shift (now (maps .entry)) → Raises n m shift (now (maps .exit))) ⌝ }
+{
+    let mut a = 0;
+    while a < m {
+        maps[256 + (a + 1)] = (a + 1) as u16;
+        a += 1;
+    }
+}
+
+// The maps by which the states of a sheet go to those from `shift` on, and its actions are as they are.
+fn raised(h: encoding::Header, shift: usize) -> Maps
+    requires { ⌜ (shift + h .states ≤ 256) × (h .actions ≤ 64) ⌝ }
+    ensures { λ r. ⌜ Raises (h .states) (h .actions) shift r ⌝ }
+{
+    let mut maps = [0u16; 321];
+    raise_states(&mut maps, h.states, shift);
+    keep_actions(&mut maps, h.actions);
+    maps
+}
+
+// Links the states below n that go to the same state.
+fn link(maps: &Maps, n: usize) -> Links
+    requires { ⌜ (n ≤ 256) × ((p : ℕ) → p < n → stateTo (now maps) p < 256) ⌝ }
+    ensures { λ r. ⌜ Linked n (now (maps .entry)) r ⌝ }
+{
+    let mut links = [256u16; 512];
+    let mut p = n;
+    while p > 0 {
+        p -= 1;
+        let i = state_to(maps, p);
+        links[256 + p] = links[i];
+        links[i] = p as u16;
+    }
+    links
+}
+
+// The first state that goes to state i, or 256.
+fn first_to(links: &Links, i: usize) -> usize
+    requires { ⌜ i < 256 ⌝ }
+    ensures { λ r. ⌜ r ≡ firstTo (now (links .entry)) i ⌝ }
+{
+    rows::wide(links[i])
+}
+
+// The next state after p that goes where p goes, or 256.
+fn next_to(links: &Links, p: usize) -> usize
+    requires { ⌜ p < 256 ⌝ }
+    ensures { λ r. ⌜ r ≡ nextTo (now (links .entry)) p ⌝ }
+{
+    rows::wide(links[256 + p])
+}
+
+// Puts the actions and targets of state p's chain, each where it goes, into the sets as the members 256 * a + t.
+fn add_chain(s: &[u8], h: encoding::Header, p: usize, maps: &Maps, sets: &mut [u64; 260])
+    requires { ⌜ (Recorded (now s) h) × (p < h .states) × Within h (now maps) × (now sets ≡ rowOf 260 (inRow (now sets))) ⌝ }
+    ensures { λ _. ⌜ (let old = now (sets .entry) in
+        now (sets .exit) ≡ rowOf 260 (λ x. chainImage (now (maps .entry)) (now (s .entry)) h p x || inRow old x)) ⌝ }
+{
     let mut j = encoding::first_of(s, h, p);
     let mut left = h.transitions + 1;
     while left > 0 {
         if j == 0 {
-            return sets;
+            return;
         }
         let r = encoding::known_transition(s, h, j);
-        rows::insert(&mut sets, shift + (256 * (r.action as usize) + r.target));
+        let a = action_to(maps, r.action as usize);
+        rows::insert(sets, 256 * a + state_to(maps, r.target));
         j = r.next;
         left -= 1;
+    }
+}
+
+// The actions and targets of the chains of all states that go to state i, each where it goes.
+fn row_sets(s: &[u8], h: encoding::Header, maps: &Maps, links: &Links, i: usize) -> [u64; 260]
+    requires { ⌜ (Recorded (now s) h) × Within h (now maps) × Linked (h .states) (now maps) (now links) × (i < 256) ⌝ }
+    ensures { λ r. ⌜ r ≡ rowOf 260 (rowImage (now (maps .entry)) (now (s .entry)) h i) ⌝ }
+{
+    let mut sets = [0u64; 260];
+    let mut p = first_to(links, i);
+    while p < 256 {
+        add_chain(s, h, p, maps, &mut sets);
+        p = next_to(links, p);
     }
     sets
 }
 
-// Writes state p of a sheet as state shift + p, its transitions from number `from` on; the number after them.
-fn load_state(
-    s: &[u8],
-    h: encoding::Header,
-    p: usize,
-    shift: usize,
-    m: usize,
-    table: &mut Table,
-    from: usize,
-) -> usize
-    requires { ⌜ (p < h .states) × ((L : Lts) × Loading L (now s) h shift m p from (now table)) ⌝ }
-    ensures { λ r. ⌜ ((L : Lts) → Loading L (now (s .entry)) h shift m p from (now (table .entry))
-        → Loading L (now (s .entry)) h shift m (p + 1) r (now (table .exit))) ⌝ }
+// The end mark of state i: 1 if a state that goes there has it.
+fn row_mark(s: &[u8], h: encoding::Header, links: &Links, i: usize) -> u8
+    requires { ⌜ (Recorded (now s) h) × (i < 256) × ((maps : List ℕ) × Linked (h .states) maps (now links)) ⌝ }
+    ensures { λ r. ⌜ ((maps : List ℕ) → Linked (h .states) maps (now (links .entry)) → r ≡ cond (markImage maps (now (s .entry)) h i) 1 0) ⌝ }
 {
-    let sets = successor_sets(s, h, p, shift);
-    let at = put_row(table, shift + p, m, &sets, from);
-    let record = encoding::state_record(s, h, p);
-    put_state(table, shift + p, record.mark, at);
-    at
+    let mut p = first_to(links, i);
+    while p < 256 {
+        let record = encoding::state_record(s, h, p);
+        if record.mark == 1 {
+            return 1;
+        }
+        p = next_to(links, p);
+    }
+    0
 }
 
-// Writes the states of a sheet from state `shift` on, their transitions from number `from` on; the number after them.
-fn load_states(
+// Writes state i of a sheet under the maps, behind the states below it.
+fn load_row(
     s: &[u8],
     h: encoding::Header,
-    shift: usize,
+    maps: &Maps,
+    links: &Links,
+    i: usize,
     m: usize,
     table: &mut Table,
-    from: usize,
-) -> usize
-    requires { ⌜ ((L : Lts) × Loading L (now s) h shift m 0 from (now table)) ⌝ }
-    ensures { λ r. ⌜ ((L : Lts) → Loading L (now (s .entry)) h shift m 0 from (now (table .entry))
-        → Loading L (now (s .entry)) h shift m (h .states) r (now (table .exit))) ⌝ }
+)
+    requires { ⌜ Linked (h .states) (now maps) (now links) × ((L : Lts) × Loading L (now s) h (now maps) m i (now table) × Image L (now s) (now maps) i) ⌝ }
+    ensures { λ _. ⌜ (let sheet = now (s .entry) in let to = now (maps .entry) in (L : Lts)
+        → Loading L sheet h to m i (now (table .entry)) → Image L sheet to i → Loading L sheet h to m (i + 1) (now (table .exit))) ⌝ }
 {
-    let n = h.states;
-    let mut at = from;
-    let mut p = 0;
-    while p < n {
-        at = load_state(s, h, p, shift, m, table, at);
-        p += 1;
+    let sets = row_sets(s, h, maps, links, i);
+    let end = put_row(table, i, m, &sets, offset(table, i));
+    put_state(table, i, row_mark(s, h, links, i), end);
+}
+
+// Writes the states from `low` up to `high` of a sheet under the maps, behind those below `low`.
+fn load_rows(
+    s: &[u8],
+    h: encoding::Header,
+    maps: &Maps,
+    low: usize,
+    high: usize,
+    m: usize,
+    table: &mut Table,
+)
+    requires { ⌜ (low ≤ high) × ((L : Lts) × Loading L (now s) h (now maps) m low (now table) × Images L (now s) (now maps) low high) ⌝ }
+    ensures { λ _. ⌜ (let sheet = now (s .entry) in let to = now (maps .entry) in (L : Lts)
+        → Loading L sheet h to m low (now (table .entry)) → Images L sheet to low high → Loading L sheet h to m high (now (table .exit))) ⌝ }
+{
+    let links = link(maps, h.states);
+    let mut i = low;
+    while i < high {
+        load_row(s, h, maps, &links, i, m, table);
+        i += 1;
     }
-    at
+}
+
+// The table of a readable sheet under the maps, with n states and m actions.
+pub fn load_mapped(s: &[u8], h: encoding::Header, maps: &Maps, n: usize, m: usize) -> Table
+    requires { ⌜ ReadableAs (now s) h × Sends n m (stateTo (now maps)) (actionTo (now maps)) (ltsOf (now s)) × (n ≤ 256) × (m ≤ 64) ⌝ }
+    ensures { λ r. ⌜ Holds (mapped n m (stateTo (now (maps .entry))) (actionTo (now (maps .entry))) (ltsOf (now (s .entry)))) r ⌝ }
+{
+    let mut table = [0u16; 3588];
+    load_rows(s, h, maps, 0, n, m, &mut table);
+    let k = offset(&table, n);
+    put_counts(&mut table, n, m, k);
+    table
 }
 
 // The table of a readable sheet.
@@ -236,10 +361,8 @@ pub fn load(s: &[u8], h: encoding::Header) -> Table
     requires { ⌜ ReadableAs (now s) h ⌝ }
     ensures { λ r. ⌜ Holds (ltsOf (now (s .entry))) r ⌝ }
 {
-    let mut table = [0u16; 3588];
-    let k = load_states(s, h, 0, h.actions, &mut table, 0);
-    put_counts(&mut table, h.states, h.actions, k);
-    table
+    let maps = raised(h, 0);
+    load_mapped(s, h, &maps, h.states, h.actions)
 }
 
 // The larger of two numbers.
@@ -260,9 +383,13 @@ pub fn load_both(first: &[u8], h: encoding::Header, second: &[u8], g: encoding::
 {
     let mut table = [0u16; 3588];
     let m = larger(h.actions, g.actions);
-    let middle = load_states(first, h, 0, m, &mut table, 0);
-    let k = load_states(second, g, h.states, m, &mut table, middle);
-    put_counts(&mut table, h.states + g.states, m, k);
+    let n = h.states + g.states;
+    let own = raised(h, 0);
+    load_rows(first, h, &own, 0, h.states, m, &mut table);
+    let behind = raised(g, h.states);
+    load_rows(second, g, &behind, h.states, n, m, &mut table);
+    let k = offset(&table, n);
+    put_counts(&mut table, n, m, k);
     table
 }
 

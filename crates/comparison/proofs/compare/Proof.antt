@@ -1,13 +1,15 @@
--- `comparison::compare` meets its contract, by the cases of the first reading.
+-- `comparison::compare` meets its contract, by the cases of the reading.
+use native.Mathlib.Omega.{arith}
 use mathlib.Core.Path.{_∙_, sym}
-use Rattle.encoding.proofs.Reader.{readable-of}
-use Rattle.comparison.proofs.Answers.{first-refused, first-read}
+use Rattle.inputs.proofs.Joined.{joinable}
+use Rattle.comparison.proofs.Runs.{joined-states}
+use Rattle.comparison.proofs.Answers.{unread, compared}
 use borrow.Author.Needs.{needs}
 use Rattle.comparison.proofs.compare.Statement.{statement}
 use Rattle.comparison.proofs.compare.Tie as tie
 
-read-encoding-requires : tie.Need-read-encoding-requires
-read-encoding-requires c κs = search needs
+read-both-requires : tie.Need-read-both-requires
+read-both-requires c κs = search needs
 
 enum-known-reading : tie.Need-enum-known-reading
 enum-known-reading c = search needs
@@ -15,23 +17,37 @@ enum-known-reading c = search needs
 enum-known-reading-2 : tie.Need-enum-known-reading-2
 enum-known-reading-2 c = search needs
 
-compare-second-requires : tie.Need-compare-second-requires
-compare-second-requires c κs = readable-of (sym (c .before .before .before .read-encoding .ensures .0) ∙ c .before .reading2 .given .1)
+load-both-requires : tie.Need-load-both-requires
+load-both-requires c κs =
+    let a = c .before in
+    let j = joinable _ _ (sym (a .before .before .read-both .ensures) ∙ a .reading2 .given .1) in
+    ((j .one, j .two), (j .states, j .transitions))
+
+compare-ended-requires : tie.Need-compare-ended-requires
+compare-ended-requires c κs =
+    let a = c .before .before .before in
+    let j = joinable _ _ (sym (a .before .before .read-both .ensures) ∙ a .reading2 .given .1) in
+    let k = c .before .load-both .ensures in
+    let n = joined-states _ _ _ _ (j .one) (j .two) k in
+    (k .formed, omega (arith, n, j .two .recorded .sized .bounds .state))
 
 returns : tie.Need-returns
-returns c = first-refused _ _ (sym (c .before .before .before .read-encoding .ensures .0) ∙ c .before .reading .given .1)
+returns c = unread _ _ (sym (c .before .before .before .read-both .ensures) ∙ c .before .reading .given .1)
 
 returns-2 : tie.Need-returns-2
 returns-2 c =
-    first-read _ _ (c .compare-second .result) (sym (c .before .before .before .before .read-encoding .ensures .0) ∙ c .before .before .reading2 .given .1) (c .compare-second .ensures)
+    let a = c .before .before .before .before in
+    compared _ _ (c .compare-ended .result) (sym (a .before .before .read-both .ensures) ∙ a .reading2 .given .1) (c .before .before .load-both .ensures)
+    (c .compare-ended .ensures)
 
 pub compare-spec : {M : Type 1} → statement M
 compare-spec =
     tie.close
     (tie.spec
-    read-encoding-requires
+    read-both-requires
     enum-known-reading
     enum-known-reading-2
-    compare-second-requires
+    load-both-requires
+    compare-ended-requires
     returns
     returns-2)

@@ -1,18 +1,16 @@
--- `comparison::compare_from` meets its contract: each array has room for a matrix. Assumes nothing.
-use Prim.Native.Nat.{ℕ, _*_, _≤_, _<_}
-use mathlib.Core.Path.{_≡_, sym, ap, _∙_}
+-- `comparison::compare_from` meets its contract: the bit of (0, q) is read from the matrix of the run.
+use mathlib.Core.Path.{sym, _∙_}
+use mathlib.Core.List.{[]}
 use native.Mathlib.Omega.{arith}
 use denote.Ref.{now}
-use Rattle.rows.specs.Rows.{rowWords}
+use Rattle.lts.specs.Refinement.{coarsest}
 use Rattle.rows.proofs.Rows.{prefix-long}
+use Rattle.relation.specs.Matrix.{relationOf}
+use Rattle.transitions.specs.Table.{statesOf, tableLts}
+use Rattle.comparison.proofs.Runs.{size-is, front-room, front-is, front-long, run-reply}
 use borrow.Author.Needs.{needs}
 use Rattle.comparison.proofs.compare_from.Statement.{statement}
 use Rattle.comparison.proofs.compare_from.Tie as tie
-use Rattle.comparison.proofs.compare_from.Reads as reads
-use Rattle.comparison.proofs.compare_from.Lts as lts
-use Rattle.comparison.proofs.compare_in.Reads as compare-in-reads
-use Rattle.relation.proofs.matrix_words.Reads as matrix-words-reads
-use Rattle.transitions.proofs.states.Reads as states-reads
 
 states-requires : tie.Need-states-requires
 states-requires c κs = search needs
@@ -23,30 +21,50 @@ matrix-words-requires c κs = search needs
 array-borrow-prefix-related : tie.Need-array-borrow-prefix-related
 array-borrow-prefix-related c = search needs
 
-slice-aggregate-compare-in : tie.Need-slice-aggregate-compare-in
-slice-aggregate-compare-in c = sym (prefix-long _ 1024 (c .before .matrix-words .ensures .1))
+slice-aggregate-relate : tie.Need-slice-aggregate-relate
+slice-aggregate-relate c = sym (prefix-long _ 1024 (c .before .matrix-words .ensures .1))
 
-array-borrow-prefix-viewed : tie.Need-array-borrow-prefix-viewed
-array-borrow-prefix-viewed c = search needs
+relate-requires : tie.Need-relate-requires
+relate-requires c κs =
+    let size = c .before .matrix-words .ensures in
+    let s = c .before .before .before .before in
+    (s .pre .0, s .pre .1, prefix-long _ 1024 (size .1) ∙ size-is (c .before .before .states .ensures .0) (size .0))
 
-slice-aggregate-compare-in-2 : tie.Need-slice-aggregate-compare-in-2
-slice-aggregate-compare-in-2 c = sym (prefix-long _ 1024 (c .before .before .matrix-words .ensures .1))
+array-share-prefix-related : tie.Need-array-share-prefix-related
+array-share-prefix-related c =
+    let w = c .before .before .before in
+    front-room (w .before .states .ensures .0) (w .matrix-words .ensures .0) _ _ (c .before .relate .ensures .1)
 
-array-borrow-prefix-blocks : tie.Need-array-borrow-prefix-blocks
-array-borrow-prefix-blocks c = search needs
+slice-aggregate-relates : tie.Need-slice-aggregate-relates
+slice-aggregate-relates c =
+    let w = c .before .before .before .before in
+    front-long (w .before .states .ensures .0) (w .matrix-words .ensures .0) _ _ (c .before .before .relate .ensures .1)
 
-slice-aggregate-compare-in-3 : tie.Need-slice-aggregate-compare-in-3
-slice-aggregate-compare-in-3 c = sym (prefix-long _ 1024 (c .before .before .before .matrix-words .ensures .1))
+relates-requires : tie.Need-relates-requires
+relates-requires c κs =
+    let w = c .before .before .before .before in
+    let p = w .before .before .before .pre in
+    let states = w .before .states .ensures .0 in (
+      sym (front-long states (w .matrix-words .ensures .0) _ _ (c .before .before .relate .ensures .1)) ∙ w .matrix-words .ensures .0,
+      omega (arith, states, p .0 .states),
+      omega (arith, states, p .0 .some),
+      omega (arith, states, p .2),
+    )
 
-compare-in-requires : tie.Need-compare-in-requires
-compare-in-requires c κs =
-    let size = c .before .before .before .matrix-words .ensures in
-    let s = c .before .before .before .before .before .before in
-    let long = prefix-long _ 1024 (size .1) ∙ size .0 ∙ ap (λ (n : ℕ). n * rowWords n) (c .before .before .before .before .states .ensures .0) in
-    (s .pre .0, s .pre .1, s .pre .2, long, long, long)
+verdict-requires : tie.Need-verdict-requires
+verdict-requires c κs = search needs
 
 returns : tie.Need-returns
-returns c = search needs
+returns c =
+    let r = c .before .before .before .before .relate .ensures in
+    let w = c .before .before .before .before .before .before in
+    let s = w .before .before .before in
+    let t = now (s .args .table) in
+    let run = coarsest (tableLts t) (relationOf (statesOf t) (now (s .args .start))) [] in
+    let states = w .before .states .ensures .0 in
+    run-reply (statesOf t) run (s .args .q) (s .pre .0 .some) (s .pre .2) (front-is states (w .matrix-words .ensures .0) _ _ (r .1))
+    states (c .before .relates .ensures) (r .0)
+    ∙ c .verdict .ensures
 
 pub compare-from-spec : {M : Type 1} → statement M
 compare-from-spec =
@@ -55,10 +73,10 @@ compare-from-spec =
     states-requires
     matrix-words-requires
     array-borrow-prefix-related
-    slice-aggregate-compare-in
-    array-borrow-prefix-viewed
-    slice-aggregate-compare-in-2
-    array-borrow-prefix-blocks
-    slice-aggregate-compare-in-3
-    compare-in-requires
+    slice-aggregate-relate
+    relate-requires
+    array-share-prefix-related
+    slice-aggregate-relates
+    relates-requires
+    verdict-requires
     returns)

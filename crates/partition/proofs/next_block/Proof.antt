@@ -56,7 +56,7 @@ returns : tie.Need-returns
 returns c =
     let start = c .before .before .before .before .before .before .before in
     c .member-at .ensures ∙ same (c .before .before .before .before .before) _ (mod-lt _ (start .pre .1))
-    ∙ ap (λ (x : ℕ). getD (passing (start .args .n) (inRow (now (start .args .pending)))) (x % start .args .c) 0) (c .before .before .wide .ensures)
+    ∙ ap (λ (x : ℕ). getD (passing (start .args .n) (inRow (now (start .args .pending)))) (x % start .args .c) 0) (c .before .before .wide .ensures .0)
 
 member-at-requires-2 : tie.Need-member-at-requires-2
 member-at-requires-2 c κs = (search needs, search needs, within (c .before .before) 0 (c .before .before .before .before .pre .1))

@@ -32,7 +32,7 @@ wide-requires-2 c κs = search needs
 
 returns : tie.Need-returns
 returns c = let s = c .before .before .before .before .before in
-    record { first = last-first _ (s .pre) (c .before .before .wide .ensures); second = last-second _ (s .pre) (c .wide2 .ensures) }
+    record { first = last-first _ (s .pre) (c .before .before .wide .ensures .0); second = last-second _ (s .pre) (c .wide2 .ensures .0) }
 
 pub last-pair-spec : {M : Type 1} → statement M
 last-pair-spec =

@@ -33,7 +33,7 @@ wide-requires-2 c κs = search needs
 
 returns : tie.Need-returns
 unfolding holdsPair
-returns c = rw (c .before .before .wide .ensures, c .wide2 .ensures)
+returns c = rw (c .before .before .wide .ensures .0, c .wide2 .ensures .0)
 
 pub holds-pair-spec : {M : Type 1} → statement M
 holds-pair-spec =

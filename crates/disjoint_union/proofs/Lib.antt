@@ -1,0 +1,4 @@
+pub mod Union
+pub mod Promise
+pub mod Answers
+mod Cases
