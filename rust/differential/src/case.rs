@@ -13,11 +13,12 @@ pub enum Call {
     CheckPlan,
     WritePlan,
     HandPlay,
+    Join,
 }
 
 impl Call {
     /// All calls.
-    pub const ALL: [Call; 8] = [
+    pub const ALL: [Call; 9] = [
         Call::Coarsest,
         Call::Compare,
         Call::Normalise,
@@ -26,6 +27,7 @@ impl Call {
         Call::CheckPlan,
         Call::WritePlan,
         Call::HandPlay,
+        Call::Join,
     ];
 
     /// Document 01's name, with _ for a blank.
@@ -39,6 +41,7 @@ impl Call {
             Call::CheckPlan => "check_plan",
             Call::WritePlan => "write_plan",
             Call::HandPlay => "hand_play",
+            Call::Join => "join",
         }
     }
 
@@ -52,6 +55,7 @@ impl Call {
             Call::CheckPlan => &[1, 2, 3, 4, 5, 6, 8, 9, 10, 14],
             Call::WritePlan => &[1, 2, 3, 4, 5, 6, 8, 9, 10, 11, 13, 15],
             Call::HandPlay => &[1, 2, 3, 4, 5, 6, 8, 9, 10, 11, 12],
+            Call::Join => &[1, 2, 3, 4, 5, 6, 7, 15],
         }
     }
 

@@ -37,7 +37,9 @@ pub fn case(call: Call, seed: u64) -> Case {
     };
     match call {
         Call::Coarsest => coarsest(rng, &mut case),
-        Call::Compare => compare(rng, &mut case),
+        Call::Compare => {
+            two_sheets(rng, FEW, &mut case);
+        }
         Call::Normalise => {
             let lts = flow_and_sheet(rng, MANY, &mut case);
             let right = length(lts.states(), lts.transitions().len());
@@ -79,6 +81,11 @@ pub fn case(call: Call, seed: u64) -> Case {
                 argument(rng, q, lts.states()),
                 argument(rng, rounds, 7),
             ];
+        }
+        Call::Join => {
+            let right = two_sheets(rng, MANY, &mut case);
+            let out = join_buffer(rng, right);
+            case.bytes.push(out);
         }
     }
     case
@@ -137,29 +144,35 @@ fn coarsest(rng: &mut Prng, case: &mut Case) {
 }
 
 /// Two sheets: unlike ones, like ones, and now and then too large together.
-fn compare(rng: &mut Prng, case: &mut Case) {
-    if rng.chance(3) {
-        return compare_at_limits(rng, case);
-    }
-    let first = flow_and_sheet(rng, FEW, case);
+/// Gives the length of the joined sheet.
+fn two_sheets(rng: &mut Prng, sizes: Sizes, case: &mut Case) -> usize {
+    let [first, second] = if rng.chance(3) {
+        at_limits(rng, case)
+    } else {
+        two_flows(rng, sizes, case)
+    };
+    let moves = first.transitions().len() + second.transitions().len();
+    length(first.states() + second.states(), moves)
+}
+
+/// Two flows, unlike ones or like ones.
+fn two_flows(rng: &mut Prng, sizes: Sizes, case: &mut Case) -> [Lts; 2] {
+    let first = flow_and_sheet(rng, sizes, case);
     if rng.chance(50) {
-        flow_and_sheet(rng, FEW, case);
-        return;
+        let second = flow_and_sheet(rng, sizes, case);
+        return [first, second];
     }
     // The same flow with one move more or less, either way round.
-    let mut moves = first.transitions().to_vec();
-    if !moves.is_empty() && rng.chance(70) {
-        moves.remove(rng.below(moves.len()));
-    }
-    let second = Lts::new(first.actions(), first.end_marks().to_vec(), moves);
+    let second = random::fewer(rng, &first, 1);
     case.bytes.push(sheet(rng, &second, DAMAGED));
     if rng.chance(50) {
         case.bytes.swap(0, 1);
     }
+    [first, second]
 }
 
 /// Pages or moves that together are at the limit or just above.
-fn compare_at_limits(rng: &mut Prng, case: &mut Case) {
+fn at_limits(rng: &mut Prng, case: &mut Case) -> [Lts; 2] {
     let above = rng.below(2);
     let flows = if rng.chance(50) {
         let n = rng.between(1, 255);
@@ -171,6 +184,21 @@ fn compare_at_limits(rng: &mut Prng, case: &mut Case) {
     for lts in &flows {
         case.bytes.push(sheet(rng, lts, 0));
     }
+    flows
+}
+
+/// A buffer for a joined sheet: of its length, longer, one byte shorter,
+/// empty or of any length.
+fn join_buffer(rng: &mut Prng, right: usize) -> Vec<u8> {
+    let count = match rng.below(10) {
+        0..=2 => right,
+        3..=5 => right + rng.between(1, 40),
+        6 => right + rng.below(9000),
+        7 => right - 1,
+        8 => 0,
+        _ => wrong_length(rng, right, 6),
+    };
+    any_bytes(rng, count)
 }
 
 /// A claim for test simulation: near the coarsest simulation, or anything.

@@ -3,7 +3,7 @@
 use crate::case::{Call, Case, Outcome};
 use crate::memory::{Slot, SLOTS};
 use flow::Refusal;
-use reference::{compare, game, grid, plans, sheet, turns};
+use reference::{compare, game, grid, join, plans, sheet, turns};
 
 /// The archive's outcome, with the lent buffers lying in the given slots.
 pub fn archive<S: Slot>(case: &Case, slots: &mut [S; SLOTS]) -> Outcome {
@@ -48,6 +48,9 @@ fn archive_answer(
         }
         (Call::HandPlay, [sheet, start], &[p, q, rounds]) => {
             flow::hand_play(sheet, start, p, q, rounds).map(|wins| vec![wins.into()])
+        }
+        (Call::Join, [first, second, out], []) => {
+            flow::join(first, second, out).map(|length| vec![length as u64])
         }
         _ => panic!("a case with other buffers than its call takes"),
     }
@@ -103,6 +106,9 @@ fn expected_answer(call: Call, bytes: &mut [Vec<u8>], numbers: &[u64]) -> Result
             let (p, q, rounds) = (short(p), short(q), short(rounds));
             let wins = game::hand_play(sheet, &words(start), p, q, rounds)?;
             Ok(vec![wins.into()])
+        }
+        (Call::Join, [first, second, out], []) => {
+            join::join(first, second, out).map(|length| vec![length as u64])
         }
         _ => panic!("a case with other buffers than its call takes"),
     }

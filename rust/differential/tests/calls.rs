@@ -39,6 +39,7 @@ calls! {
     check_plan CheckPlan
     write_plan WritePlan
     hand_play HandPlay
+    join Join
 }
 
 #[cfg(target_os = "linux")]

@@ -85,7 +85,10 @@ fn f1_to_f9() {
     let f2 = Lts::of(2, 1, &[(0, 1, 1), (1, 1, 0)]);
     let f4 = Lts::of(4, 1, &[(0, 1, 1), (1, 1, 2), (2, 1, 3)]);
     let f3 = "pages 3 turns 2 kept 6 classes 3\n0 0 0 2\n1 1 0 1 2\n2 2 2\n";
-    assert_eq!(printed(&sheet::write(&f1)), "pages 1 turns 0 kept 1 classes 1\n0 0 0\n");
+    assert_eq!(
+        printed(&sheet::write(&f1)),
+        "pages 1 turns 0 kept 1 classes 1\n0 0 0\n"
+    );
     assert_eq!(
         printed(&sheet::write(&f2)),
         "pages 2 turns 0 kept 4 classes 1\n0 0 0 1\n1 0 0 1\n"
@@ -116,7 +119,11 @@ fn each_refusal_of_a_sheet() {
         (twice.to_vec(), 6),
     ];
     for (sheet, number) in sheets {
-        assert_eq!(printed(&sheet), format!("refused {number}\n"), "for {sheet:?}");
+        assert_eq!(
+            printed(&sheet),
+            format!("refused {number}\n"),
+            "for {sheet:?}"
+        );
         agrees(&sheet);
     }
 }

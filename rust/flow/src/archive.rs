@@ -1,4 +1,4 @@
-//! The eight symbols of the archive, and one safe function for each.
+//! The nine symbols of the archive, and one safe function for each.
 //!
 //! A lent slice passes as its pointer and its length. The calls read and write
 //! no byte outside the slices, keep no pointer and hold no state, so the
@@ -24,6 +24,14 @@ extern "C" {
         first_len: usize,
         second: *const u8,
         second_len: usize,
+    ) -> u64;
+    fn flow_join(
+        first: *const u8,
+        first_len: usize,
+        second: *const u8,
+        second_len: usize,
+        out: *mut u8,
+        out_len: usize,
     ) -> u64;
     fn flow_normalise(sheet: *const u8, sheet_len: usize, out: *mut u8, out_len: usize) -> u64;
     fn flow_end_start(sheet: *const u8, sheet_len: usize, grid: *mut u8, grid_len: usize) -> u64;
@@ -89,6 +97,19 @@ pub fn coarsest(
 
 pub fn compare(first: &[u8], second: &[u8]) -> u64 {
     unsafe { flow_compare(first.as_ptr(), first.len(), second.as_ptr(), second.len()) }
+}
+
+pub fn join(first: &[u8], second: &[u8], out: &mut [u8]) -> u64 {
+    unsafe {
+        flow_join(
+            first.as_ptr(),
+            first.len(),
+            second.as_ptr(),
+            second.len(),
+            out.as_mut_ptr(),
+            out.len(),
+        )
+    }
 }
 
 pub fn normalise(sheet: &[u8], out: &mut [u8]) -> u64 {

@@ -20,6 +20,20 @@ impl Grid {
         }
     }
 
+    /// The grid that holds each page with itself, the least start.
+    ///
+    /// ```
+    /// let grid = flow::Grid::diagonal(2);
+    /// assert_eq!(grid.bytes(), [1, 0, 0, 0, 0, 0, 0, 0, 2, 0, 0, 0, 0, 0, 0, 0]);
+    /// ```
+    pub fn diagonal(pages: usize) -> Grid {
+        let mut grid = Grid::new(pages);
+        for p in 0..pages {
+            grid.bytes[p * row_length(pages) + p / 8] |= 1 << (p % 8);
+        }
+        grid
+    }
+
     /// Does the grid hold (p, q)? Panics where p or q is no page.
     pub fn holds(&self, p: usize, q: usize) -> bool {
         assert!(p < self.pages && q < self.pages, "no such page");

@@ -125,6 +125,31 @@ pub fn compare(first: &[u8], second: &[u8]) -> Result<Compared, Refusal> {
     packed.end(compared)
 }
 
+/// Join: writes the joined flow of two sheets as a normal sheet and gives its
+/// length. The second's pages follow the first's, actions are matched by
+/// number. Bytes past the sheet stay as they are; a buffer as long as both
+/// sheets together is long enough.
+///
+/// Refuses with 1 to 6 for the first sheet, then for the second, then 7, and
+/// with 15 where the buffer is shorter than the sheet.
+///
+/// ```
+/// let marked = [1, 0, 0, 0, 0, 0, 1, 0, 0, 0]; // one page with the end mark
+/// let one_loop = [1, 0, 1, 0, 1, 0, 0, 0, 1, 0, 1, 0, 0, 0, 0, 0];
+/// let mut out = [9; 22];
+/// assert_eq!(flow::join(&marked, &one_loop, &mut out), Ok(20));
+/// assert_eq!(out[..6], [2, 0, 1, 0, 1, 0]); // two pages, one action, one move
+/// assert_eq!(out[6..14], [1, 0, 0, 0, 0, 0, 1, 0]); // the pages
+/// assert_eq!(out[14..20], [1, 0, 1, 0, 0, 0]); // the move 1 -1-> 1
+/// assert_eq!(out[20..], [9, 9]);
+/// assert_eq!(flow::join(&marked, &one_loop, &mut [9; 19]), Err(flow::Refusal::Buffer));
+/// ```
+pub fn join(first: &[u8], second: &[u8], out: &mut [u8]) -> Result<usize, Refusal> {
+    let mut packed = Packed::new("flow_join", archive::join(first, second, out))?;
+    let length = packed.number(16) as usize;
+    packed.end(length)
+}
+
 /// Normalise: writes the sheet's normal form into a buffer of the sheet's own
 /// length.
 ///

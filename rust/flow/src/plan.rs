@@ -16,6 +16,23 @@ pub struct Entry {
     pub t: u16,
 }
 
+impl Entry {
+    /// The bytes that carry the entry.
+    ///
+    /// ```
+    /// let entry = flow::Entry { p: 0, q: 1, a: 2, t: 300 };
+    /// assert_eq!(entry.bytes(), [0, 0, 1, 0, 2, 0, 44, 1]);
+    /// assert_eq!(flow::entries(&entry.bytes()).collect::<Vec<_>>(), [entry]);
+    /// ```
+    pub fn bytes(self) -> [u8; ENTRY_BYTES] {
+        let mut bytes = [0; ENTRY_BYTES];
+        for (at, number) in [self.p, self.q, self.a, self.t].into_iter().enumerate() {
+            bytes[2 * at..2 * at + 2].copy_from_slice(&number.to_le_bytes());
+        }
+        bytes
+    }
+}
+
 impl fmt::Display for Entry {
     fn fmt(&self, f: &mut fmt::Formatter<'_>) -> fmt::Result {
         write!(f, "({},{},{},{})", self.p, self.q, self.a, self.t)

@@ -37,7 +37,7 @@ pub enum Refusal {
     /// 14: a plan is empty or has an unsound entry.
     Unsound = 14,
     /// 15: a result buffer of another length than named; for a plan, shorter
-    /// than its count of entries.
+    /// than its count of entries; for join, shorter than the sheet.
     Buffer = 15,
 }
 
@@ -73,31 +73,36 @@ impl Refusal {
             .find(|refusal| u64::from(refusal.number()) == number)
     }
 
-    /// The reason in words.
-    fn reason(self) -> &'static str {
+    /// Document 01's sentence: when a call gives this number.
+    ///
+    /// ```
+    /// let sentence = "a record on no chain, or reached twice";
+    /// assert_eq!(flow::Refusal::Chain.sentence(), sentence);
+    /// ```
+    pub fn sentence(self) -> &'static str {
         match self {
-            Refusal::Length => "the sheet's length is not the one that its counts say",
-            Refusal::Counts => "a count of the sheet's header is outside its range",
-            Refusal::PageRecord => "a page record breaks a rule",
-            Refusal::MoveRecord => "a move record breaks a rule",
-            Refusal::Chain => "a move record lies on no chain or is reached twice",
-            Refusal::Repeated => "a chain holds an action and target twice",
-            Refusal::Joined => "the joined flow is above 256 pages or 1024 moves",
-            Refusal::Grid => "a grid has another length, or a bit for no page",
-            Refusal::NotReflexive => "the start is not reflexive",
-            Refusal::NotTransitive => "the start is not transitive",
-            Refusal::Page => "a page argument names no page",
-            Refusal::Rounds => "hand play has at most 6 rounds",
-            Refusal::Kept => "the pair is kept, so there is no plan for it",
-            Refusal::Unsound => "the plan is empty or has an unsound entry",
-            Refusal::Buffer => "a result buffer has another length than named",
+            Refusal::Length => "under 6 bytes, or another length than the counts say",
+            Refusal::Counts => "n, m or k outside its range",
+            Refusal::PageRecord => "a page record: mark, spare byte or index",
+            Refusal::MoveRecord => "a move record: action, spare byte, target or next index",
+            Refusal::Chain => "a record on no chain, or reached twice",
+            Refusal::Repeated => "an action and target twice in one chain",
+            Refusal::Joined => "joined flow above 256 pages or 1,024 moves",
+            Refusal::Grid => "a grid read: length, or a bit at q ≥ n",
+            Refusal::NotReflexive => "start not reflexive",
+            Refusal::NotTransitive => "start not transitive",
+            Refusal::Page => "a page argument ≥ n",
+            Refusal::Rounds => "hand play above 6 rounds",
+            Refusal::Kept => "plan wanted for a kept pair",
+            Refusal::Unsound => "plan empty or with an unsound entry",
+            Refusal::Buffer => "a result buffer of another length than named",
         }
     }
 }
 
 impl fmt::Display for Refusal {
     fn fmt(&self, f: &mut fmt::Formatter<'_>) -> fmt::Result {
-        write!(f, "refused {}: {}", self.number(), self.reason())
+        write!(f, "refused {}: {}", self.number(), self.sentence())
     }
 }
 

@@ -18,6 +18,7 @@
 //! | write plan | [`plans::write_plan`] |
 //! | hand play | [`game::hand_play`] |
 //! | compare | [`compare::compare`] |
+//! | join | [`join::join`] |
 //! | the program flowcheck | [`report::flowcheck`] |
 
 pub mod base;
@@ -25,6 +26,7 @@ pub mod compare;
 pub mod fixpoint;
 pub mod game;
 pub mod grid;
+pub mod join;
 pub mod lts;
 pub mod plans;
 pub mod prng;

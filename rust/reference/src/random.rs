@@ -78,6 +78,17 @@ pub fn small(rng: &mut Prng, most_states: usize, most_actions: usize) -> Lts {
     lts(rng, n, m, k, marks)
 }
 
+/// The flow without some of its transitions, `most` at most.
+pub fn fewer(rng: &mut Prng, lts: &Lts, most: usize) -> Lts {
+    let mut transitions = lts.transitions().to_vec();
+    for _ in 0..rng.between(0, most) {
+        if !transitions.is_empty() {
+            transitions.swap_remove(rng.below(transitions.len()));
+        }
+    }
+    Lts::new(lts.actions(), lts.end_marks().to_vec(), transitions)
+}
+
 /// A preorder of one of several shapes.
 pub fn preorder(rng: &mut Prng, n: usize) -> Preorder {
     let relation = match rng.below(6) {

@@ -1,5 +1,6 @@
 //! Unit and property tests.
 
 mod document;
+mod join;
 mod properties;
 mod sheets;

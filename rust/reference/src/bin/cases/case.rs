@@ -1,13 +1,16 @@
 //! One case: its fields, its bytes and its expected answer.
 
-use reference::compare::compare;
+use reference::compare::{self, compare};
 use reference::game::hand_play;
 use reference::grid::{end_start, test_simulation};
 use reference::plans::{check_plan, write_plan};
-use reference::sheet::normalise;
+use reference::refusal::Refusal;
+use reference::report::flowcheck;
+use reference::sheet::{self, normalise};
 use reference::turns::coarsest;
 
 /// A case: an operation and its fields.
+#[derive(Clone)]
 pub struct Case {
     /// The number of the operation.
     pub op: u8,
@@ -28,26 +31,17 @@ pub struct Answer {
 impl Case {
     /// Normalise.
     pub fn normalise(sheet: &[u8], out: &[u8]) -> Case {
-        Case {
-            op: 1,
-            fields: vec![sheet.to_vec(), out.to_vec()],
-        }
+        Case::new(1, &[sheet, out])
     }
 
     /// End start.
     pub fn end_start(sheet: &[u8], grid: &[u64]) -> Case {
-        Case {
-            op: 2,
-            fields: vec![sheet.to_vec(), word_bytes(grid)],
-        }
+        Case::new(2, &[sheet, &word_bytes(grid)])
     }
 
     /// Test simulation.
     pub fn test_simulation(sheet: &[u8], start: &[u64], claim: &[u64]) -> Case {
-        Case {
-            op: 3,
-            fields: vec![sheet.to_vec(), word_bytes(start), word_bytes(claim)],
-        }
+        Case::new(3, &[sheet, &word_bytes(start), &word_bytes(claim)])
     }
 
     /// Coarsest.
@@ -58,51 +52,60 @@ impl Case {
         grid: &[u64],
         names: &[u16],
     ) -> Case {
-        let fields = vec![
-            sheet.to_vec(),
-            word_bytes(start),
-            number_bytes(turns),
-            word_bytes(grid),
-            number_bytes(names),
-        ];
-        Case { op: 4, fields }
+        let (start, turns) = (word_bytes(start), number_bytes(turns));
+        let (grid, names) = (word_bytes(grid), number_bytes(names));
+        Case::new(4, &[sheet, &start, &turns, &grid, &names])
     }
 
-    /// Check plan.
+    /// Check plan, on numbers.
     pub fn check_plan(sheet: &[u8], start: &[u64], plan: &[u16]) -> Case {
-        Case {
-            op: 5,
-            fields: vec![sheet.to_vec(), word_bytes(start), number_bytes(plan)],
-        }
+        Case::new(5, &[sheet, &word_bytes(start), &number_bytes(plan)])
     }
 
-    /// Write plan.
+    /// Write plan, on numbers.
     pub fn write_plan(sheet: &[u8], start: &[u64], plan: &[u16], p: u16, q: u16) -> Case {
-        let fields = vec![
-            sheet.to_vec(),
-            word_bytes(start),
-            number_bytes(plan),
-            number_bytes(&[p, q]),
-        ];
-        Case { op: 6, fields }
+        let (start, plan) = (word_bytes(start), number_bytes(plan));
+        Case::new(6, &[sheet, &start, &plan, &number_bytes(&[p, q])])
     }
 
     /// Hand play.
     pub fn hand_play(sheet: &[u8], start: &[u64], p: u16, q: u16, rounds: u16) -> Case {
-        let fields = vec![
-            sheet.to_vec(),
-            word_bytes(start),
-            number_bytes(&[p, q, rounds]),
-        ];
-        Case { op: 7, fields }
+        let numbers = number_bytes(&[p, q, rounds]);
+        Case::new(7, &[sheet, &word_bytes(start), &numbers])
     }
 
     /// Compare.
     pub fn compare(first: &[u8], second: &[u8]) -> Case {
-        Case {
-            op: 8,
-            fields: vec![first.to_vec(), second.to_vec()],
-        }
+        Case::new(8, &[first, second])
+    }
+
+    /// Read.
+    pub fn read(sheet: &[u8]) -> Case {
+        Case::new(9, &[sheet])
+    }
+
+    /// Join.
+    pub fn join(first: &[u8], second: &[u8], out: &[u8]) -> Case {
+        Case::new(15, &[first, second, out])
+    }
+
+    /// The text of flowcheck.
+    pub fn text(sheet: &[u8]) -> Case {
+        Case::new(16, &[sheet])
+    }
+
+    /// Another operation on the same fields, of which field `at` has these
+    /// bytes more.
+    pub fn on(&self, op: u8, at: usize, more: &[u8]) -> Case {
+        let mut fields = self.fields.clone();
+        fields[at].extend(more);
+        Case { op, fields }
+    }
+
+    /// A case of the operation with these fields.
+    fn new(op: u8, fields: &[&[u8]]) -> Case {
+        let fields = fields.iter().map(|field| field.to_vec()).collect();
+        Case { op, fields }
     }
 
     /// The bytes of the case in a case file.
@@ -117,22 +120,27 @@ impl Case {
 
     /// Stops the program if a field is longer than the reader's buffers.
     pub fn assert_limits(&self) {
-        const SHEET: usize = 7_176;
-        const GRID: usize = 8_200;
-        const TURNS: usize = 4_096;
-        const NAMES: usize = 520;
-        const PLAN: usize = 65_536;
-        const OUT: usize = 7_180;
+        const SHEET: (usize, usize) = (7_176, 1);
+        const WORDS: (usize, usize) = (8_200, 8);
+        const BYTES: (usize, usize) = (8_208, 1);
+        const PLAN: usize = 8_192;
         // Per field: its most bytes and the number that divides its length.
         let limits: &[(usize, usize)] = match self.op {
-            1 => &[(SHEET, 1), (OUT, 1)],
-            2 => &[(SHEET, 1), (GRID, 8)],
-            3 => &[(SHEET, 1), (GRID, 8), (GRID, 8)],
-            4 => &[(SHEET, 1), (GRID, 8), (TURNS, 2), (GRID, 8), (NAMES, 2)],
-            5 => &[(SHEET, 1), (GRID, 8), (PLAN, 2)],
-            6 => &[(SHEET, 1), (GRID, 8), (PLAN, 2), (4, 4)],
-            7 => &[(SHEET, 1), (GRID, 8), (6, 6)],
-            8 => &[(SHEET, 1), (SHEET, 1)],
+            1 => &[SHEET, (7_180, 1)],
+            2 => &[SHEET, WORDS],
+            3 => &[SHEET, WORDS, WORDS],
+            4 => &[SHEET, WORDS, (4_096, 2), WORDS, (520, 2)],
+            5 => &[SHEET, WORDS, (PLAN, 2)],
+            6 => &[SHEET, WORDS, (PLAN, 2), (4, 4)],
+            7 => &[SHEET, WORDS, (6, 6)],
+            8 => &[SHEET, SHEET],
+            9 | 16 => &[SHEET],
+            10 => &[SHEET, WORDS, (PLAN, 8)],
+            11 => &[SHEET, WORDS, (PLAN, 8), (4, 4)],
+            12 => &[SHEET, WORDS, BYTES],
+            13 => &[SHEET, WORDS, BYTES, (4, 4)],
+            14 => &[SHEET, BYTES, (4_104, 1), BYTES, (520, 1)],
+            15 => &[SHEET, SHEET, SHEET],
             _ => panic!("no such op"),
         };
         assert_eq!(self.fields.len(), limits.len(), "op {}", self.op);
@@ -163,25 +171,17 @@ impl Case {
                 let result = test_simulation(&f[0], &words(&f[1]), &words(&f[2]));
                 Answer::of(result.map(|yes| vec![usize::from(yes)]), 1, vec![])
             }
-            4 => {
-                let (mut grid, mut names) = (words(&f[3]), numbers(&f[4]));
-                let result = coarsest(&f[0], &words(&f[1]), &numbers(&f[2]), &mut grid, &mut names);
-                let values = result.map(|(turns, kept, blocks)| vec![turns, kept, blocks]);
-                Answer::of(values, 3, vec![word_bytes(&grid), number_bytes(&names)])
-            }
-            5 => {
+            4 | 14 => self.run_coarsest(),
+            5 | 10 | 12 => {
                 let result = check_plan(&f[0], &words(&f[1]), &numbers(&f[2]));
                 Answer::of(result.map(|(p, q)| vec![p.into(), q.into()]), 2, vec![])
             }
-            6 => {
+            6 | 11 | 13 => {
                 let mut plan = numbers(&f[2]);
                 let pair = numbers(&f[3]);
                 let result = write_plan(&f[0], &words(&f[1]), pair[0], pair[1], &mut plan);
-                Answer::of(
-                    result.map(|count| vec![count]),
-                    1,
-                    vec![number_bytes(&plan)],
-                )
+                let buffer = over(&f[2], number_bytes(&plan));
+                Answer::of(result.map(|count| vec![count]), 1, vec![buffer])
             }
             7 => {
                 let a = numbers(&f[2]);
@@ -196,8 +196,38 @@ impl Case {
                     vec![],
                 )
             }
+            9 => {
+                let result = sheet::read(&f[0]);
+                let counts =
+                    result.map(|lts| vec![lts.states(), lts.actions(), lts.transitions().len()]);
+                Answer::of(counts, 3, vec![])
+            }
+            15 => {
+                let mut out = f[2].clone();
+                let result = join(&f[0], &f[1], &mut out);
+                Answer::of(result.map(|length| vec![length]), 1, vec![out])
+            }
+            16 => {
+                let text = flowcheck(&f[0]).into_bytes();
+                Answer::of(Ok(vec![text.len()]), 1, vec![text])
+            }
             _ => panic!("no such op"),
         }
+    }
+
+    /// Coarsest. A grid or a list of names that its bytes do not carry whole
+    /// has a wrong length, whatever the flow is.
+    fn run_coarsest(&self) -> Answer {
+        let f = &self.fields;
+        let start = whole(&f[1], 8, words);
+        let (mut grid, mut names) = (whole(&f[3], 8, words), whole(&f[4], 2, numbers));
+        let result = coarsest(&f[0], &start, &numbers(&f[2]), &mut grid, &mut names);
+        let values = result.map(|(turns, kept, blocks)| vec![turns, kept, blocks]);
+        let buffers = vec![
+            over(&f[3], word_bytes(&grid)),
+            over(&f[4], number_bytes(&names)),
+        ];
+        Answer::of(values, 3, buffers)
     }
 }
 
@@ -220,7 +250,11 @@ impl Answer {
 
     /// The line expected for the case of this number and op.
     pub fn line(&self, number: usize, op: u8) -> String {
-        let mut items = vec![number, usize::from(op), usize::from(self.refusal)];
+        let mut items = vec![number, usize::from(op)];
+        // The text of flowcheck has its refusals in it.
+        if op != 16 {
+            items.push(usize::from(self.refusal));
+        }
         items.extend(&self.values);
         items.extend(self.buffers.iter().map(|buffer| checksum(buffer)));
         let texts: Vec<String> = items.iter().map(usize::to_string).collect();
@@ -262,4 +296,30 @@ fn numbers(bytes: &[u8]) -> Vec<u16> {
         .chunks_exact(2)
         .map(|c| u16::from_le_bytes(c.try_into().unwrap()))
         .collect()
+}
+
+/// What bytes carry, nothing if they are not a multiple of the unit.
+fn whole<T>(bytes: &[u8], unit: usize, carried: fn(&[u8]) -> Vec<T>) -> Vec<T> {
+    if bytes.len() % unit == 0 {
+        carried(bytes)
+    } else {
+        Vec::new()
+    }
+}
+
+/// A buffer with other bytes in front.
+fn over(buffer: &[u8], front: Vec<u8>) -> Vec<u8> {
+    [&front[..], &buffer[front.len()..]].concat()
+}
+
+/// Join: writes the joined flow as a normal sheet and gives its length. A
+/// refusal leaves the buffer as it is, and bytes past the length stay.
+fn join(first: &[u8], second: &[u8], out: &mut [u8]) -> Result<usize, u8> {
+    let (first, second) = (sheet::read(first)?, sheet::read(second)?);
+    let joined = sheet::write(&compare::join(&first, &second)?);
+    if out.len() < joined.len() {
+        return Err(Refusal::BUFFER.0);
+    }
+    out[..joined.len()].copy_from_slice(&joined);
+    Ok(joined.len())
 }

@@ -1,4 +1,4 @@
-//! Group coarsest: the turn rule (op 4).
+//! Coarsest: the turn rule, on words (op 4) and on bytes (op 14).
 
 use crate::case::Case;
 use crate::make::{
@@ -14,7 +14,7 @@ use reference::relation::{Preorder, Relation};
 use reference::sheet;
 use reference::turns;
 
-/// The cases of the group.
+/// The cases.
 pub fn cases() -> Vec<Case> {
     let mut cases = Vec::new();
     document(&mut cases);
@@ -26,6 +26,7 @@ pub fn cases() -> Vec<Case> {
     middle(&mut cases);
     large(&mut cases);
     refusals(&mut cases);
+    bytes(&mut cases);
     cases
 }
 
@@ -94,7 +95,7 @@ fn two_pages(cases: &mut Vec<Case>) {
 /// Random small flows, starts and schedules.
 fn small(cases: &mut Vec<Case>) {
     let mut rng = Prng::new(301);
-    for round in 0..420 {
+    for round in 0..280 {
         // Most of them so small that they can be followed by hand.
         let most = if round % 3 == 0 { 5 } else { 10 };
         let lts = random::small(&mut rng, most, 4);
@@ -116,7 +117,7 @@ fn telling(cases: &mut Vec<Case>) {
         let mut rng = Prng::new(310 + seed as u64);
         let mut found = 0;
         let mut tries = 0;
-        while found < 10 {
+        while found < 8 {
             tries += 1;
             assert!(tries <= 100_000, "no flow tells {fault:?}");
             let n = rng.between(3, 9);
@@ -142,7 +143,7 @@ fn telling(cases: &mut Vec<Case>) {
 fn one_flow_many_schedules(cases: &mut Vec<Case>) {
     let mut rng = Prng::new(302);
     let mut found = 0;
-    while found < 4 {
+    while found < 3 {
         let lts = random::lts(&mut rng, 12, 3, 26, 15);
         let start = grid::end_start_of(&lts);
         let schedules: Vec<Vec<u16>> = (0..16).map(|_| random::schedule(&mut rng, 40)).collect();
@@ -219,12 +220,12 @@ fn chains_and_cycles(cases: &mut Vec<Case>) {
 /// n at and next to the multiples of 64.
 fn middle(cases: &mut Vec<Case>) {
     let mut rng = Prng::new(303);
-    for n in [63, 64, 65, 127, 128, 129] {
+    for n in [63, 64, 65, 129] {
         let lts = random::lts(&mut rng, n, 3, 2 * n, 10);
         let schedule = random::schedule(&mut rng, 100);
         add(cases, &lts, &end_words(&lts), &schedule);
     }
-    for n in [63, 64, 65] {
+    for n in [64, 65] {
         let lts = random::forward(&mut rng, n, 2, 5);
         let start = start_words(&random::preorder(&mut rng, n));
         let schedule = random::schedule(&mut rng, 300);
@@ -245,59 +246,38 @@ fn large(cases: &mut Vec<Case>) {
     let mut rng = Prng::new(304);
     let lts = random::lts_exact(&mut rng, 256, 8, 1024, 10);
     add(cases, &lts, &end_words(&lts), &[]);
-    let lts = random::lts(&mut rng, 256, 2, 400, 10);
-    let schedule = random::schedule(&mut rng, 500);
-    add(cases, &lts, &end_words(&lts), &schedule);
     // Blocks of many pages: each page has three others of the same kind.
-    let small = random::lts(&mut rng, 60, 2, 100, 10);
+    let small = random::lts(&mut rng, 30, 2, 50, 10);
     let moves: Vec<_> = small
         .transitions()
         .iter()
         .flat_map(|t| {
             (0..4).map(|i| {
                 (
-                    t.source + 60 * i,
+                    t.source + 30 * i,
                     t.action,
-                    t.target + 60 * ((i + t.action) % 4),
+                    t.target + 30 * ((i + t.action) % 4),
                 )
             })
         })
         .collect();
-    let lts = Lts::of(240, 2, &moves);
-    add(cases, &lts, &full_words(240), &[5, 500, 50_000]);
+    let lts = Lts::of(120, 2, &moves);
+    add(cases, &lts, &full_words(120), &[5, 500, 50_000]);
 }
 
 /// Refusals, and those that would hold at the same time.
 fn refusals(cases: &mut Vec<Case>) {
-    let f3 = make::f3();
-    let good: &[u64] = &[7, 7, 7];
     let (grid, names) = (filled_words(3), filled_numbers(3));
+    make::refused_inputs(cases, |sheet, start| {
+        [(3, 3), (2, 3), (3, 1)]
+            .map(|(g, m)| Case::coarsest(sheet, start, &[1, 2, 3], &grid[..g], &names[..m]))
+            .to_vec()
+    });
+    let f3 = make::f3();
+    let good = &make::F3_START;
     let mut add = |sheet: &[u8], start: &[u64], grid: &[u64], names: &[u16]| {
         cases.push(Case::coarsest(sheet, start, &[1, 2, 3], grid, names));
     };
-    // Each refused sheet, alone and with everything else wrong.
-    for sheet in make::refused_sheets() {
-        add(&sheet, good, &grid, &names);
-        add(&sheet, &[0], &grid[..2], &names[..1]);
-    }
-    // The start: length, stray bits, reflexive, transitive.
-    let starts: [&[u64]; 10] = [
-        &[],
-        &[7, 7],
-        &[7, 7, 7, 0],
-        &[15, 7, 7],
-        &[7, 7, 1 << 63 | 7],
-        &[6, 7, 7],
-        &[7, 7, 3],
-        &[0, 0, 0],
-        &[3, 6, 4],
-        &[1, 3, 6],
-    ];
-    for start in starts {
-        add(&f3, start, &grid, &names);
-        add(&f3, start, &grid[..2], &names);
-        add(&f3, start, &grid, &names[..2]);
-    }
     // The buffers.
     for (g, m) in [
         (0, 3),
@@ -348,4 +328,41 @@ fn refusals(cases: &mut Vec<Case>) {
         &filled_words(9),
         &filled_numbers(9),
     );
+}
+
+/// The same calls on bytes: small ones as they are and with bytes that carry
+/// nothing, and some that are larger.
+fn bytes(cases: &mut Vec<Case>) {
+    let (small, large): (Vec<Case>, Vec<Case>) = cases
+        .iter()
+        .cloned()
+        .partition(|case| case.encode().len() <= 250);
+    for (i, case) in small.iter().enumerate() {
+        // One byte more in one of the four fields after the sheet, or none.
+        match i % 7 {
+            0 | 1 => cases.push(case.on(14, 1, &[])),
+            at @ 2..=5 => cases.push(case.on(14, at - 1, &[255])),
+            _ => {}
+        }
+    }
+    let large = large.iter().filter(|case| case.encode().len() <= 3_000);
+    cases.extend(large.step_by(20).map(|case| case.on(14, 1, &[])));
+    // A flow of the largest size, a long turn list, and buffers over all sizes.
+    let lts = Lts::of(256, 2, &[(0, 1, 255), (255, 2, 0), (7, 1, 8)]);
+    let sheet = sheet::write(&lts);
+    let schedule: Vec<u16> = (0..300).map(|i| i * 219).collect();
+    let (grid, names) = (filled_words(1024), filled_numbers(256));
+    let case = Case::coarsest(&sheet, &end_words(&lts), &schedule, &grid, &names);
+    cases.push(case.on(14, 1, &[]));
+    let (f3, start) = (make::f3(), make::F3_START);
+    let case = Case::coarsest(&f3, &start, &schedule, &grid[..3], &names[..3]);
+    cases.push(case.on(14, 2, &[1]));
+    for at in [1, 3, 4] {
+        cases.push(case.on(14, at, &[0; 8]));
+        cases.push(case.on(14, at, &[0; 2]));
+        cases.push(case.on(14, at, &[0; 7]));
+    }
+    cases.push(case.on(14, 1, &[0; 8184]));
+    cases.push(case.on(14, 3, &[0; 8184]));
+    cases.push(case.on(14, 4, &[0; 514]));
 }

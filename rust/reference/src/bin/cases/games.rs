@@ -1,7 +1,7 @@
-//! Group games: hand play (op 7) and compare (op 8).
+//! Hand play (op 7), compare (op 8) and join (op 15).
 
 use crate::case::Case;
-use crate::make::{self, diagonal_words, full_words, start_words};
+use crate::make::{self, diagonal_words, filled_bytes, full_words, start_words};
 use reference::compare;
 use reference::grid;
 use reference::lts::{Lts, Transition};
@@ -15,15 +15,8 @@ use reference::sheet;
 /// when nothing is remembered and no search stops early.
 const MOST_CALLS: u64 = 1_000_000;
 
-/// The cases of the group.
+/// The cases.
 pub fn cases() -> Vec<Case> {
-    let mut cases = plays();
-    cases.extend(compares());
-    cases
-}
-
-/// The cases of hand play alone.
-pub fn plays() -> Vec<Case> {
     let mut cases = Vec::new();
     document_play(&mut cases);
     chain_play(&mut cases);
@@ -31,16 +24,11 @@ pub fn plays() -> Vec<Case> {
     random_play(&mut cases);
     telling_play(&mut cases);
     play_refusals(&mut cases);
-    cases
-}
-
-/// The cases of compare alone.
-pub fn compares() -> Vec<Case> {
-    let mut cases = Vec::new();
     document_compare(&mut cases);
     random_compare(&mut cases);
     joins(&mut cases);
     compare_refusals(&mut cases);
+    joined(&mut cases);
     cases
 }
 
@@ -151,7 +139,7 @@ fn add_play(cases: &mut Vec<Case>, lts: &Lts, start: &Preorder, p: usize, q: usi
 /// Random flows, starts, pairs and rounds.
 fn random_play(cases: &mut Vec<Case>) {
     let mut rng = Prng::new(501);
-    for round in 0..70 {
+    for round in 0..50 {
         let lts = if round % 3 == 0 {
             let n = rng.between(6, 14);
             random::forward(&mut rng, n, 2, 10)
@@ -172,10 +160,8 @@ fn random_play(cases: &mut Vec<Case>) {
     for n in [64, 65, 130] {
         let lts = random::forward(&mut rng, n, 2, 5);
         let start = grid::end_start_of(&lts);
-        for _ in 0..3 {
-            let (p, q) = (rng.below(n), rng.below(n));
-            add_play(cases, &lts, &start, p, q, 6);
-        }
+        let (p, q) = (rng.below(n), rng.below(n));
+        add_play(cases, &lts, &start, p, q, 6);
         // The last pages, whose bits are in the last word.
         add_play(cases, &lts, &start, n - 1, n - 2, 6);
         add_play(cases, &lts, &start, n - 3, n - 1, 6);
@@ -218,25 +204,12 @@ fn telling_play(cases: &mut Vec<Case>) {
 /// Refusals of hand play, and those that would hold at the same time.
 fn play_refusals(cases: &mut Vec<Case>) {
     let f3 = make::f3();
-    let good: &[u64] = &[7, 7, 7];
-    let bad: [&[u64]; 7] = [
-        &[7, 7],
-        &[7, 7, 7, 7],
-        &[15, 7, 7],
-        &[7, 7, 3],
-        &[3, 6, 4],
-        &[0, 0, 0],
-        &[],
-    ];
-    for sheet in make::refused_sheets() {
-        cases.push(Case::hand_play(&sheet, good, 2, 0, 2));
-        cases.push(Case::hand_play(&sheet, &[7], 3, 3, 7));
-    }
-    for start in bad {
-        cases.push(Case::hand_play(&f3, start, 2, 0, 2));
-        cases.push(Case::hand_play(&f3, start, 3, 0, 2));
-        cases.push(Case::hand_play(&f3, start, 2, 0, 7));
-    }
+    let good = &make::F3_START;
+    make::refused_inputs(cases, |sheet, start| {
+        [(2, 0, 2), (3, 0, 2), (2, 0, 7)]
+            .map(|(p, q, rounds)| Case::hand_play(sheet, start, p, q, rounds))
+            .to_vec()
+    });
     for (p, q) in [
         (3, 0),
         (0, 3),
@@ -318,8 +291,6 @@ fn joins(cases: &mut Vec<Case>) {
         (128, 128),
         (128, 129),
         (255, 1),
-        (1, 255),
-        (256, 1),
         (1, 256),
         (255, 2),
         (256, 256),
@@ -341,23 +312,12 @@ fn joins(cases: &mut Vec<Case>) {
         &sheet::write(&make::chain(99)),
         &sheet::write(&make::chain(100)),
     ));
-    for (a, b) in [
-        (512, 512),
-        (512, 513),
-        (1024, 0),
-        (0, 1024),
-        (1024, 1),
-        (1, 1024),
-        (1023, 1),
-    ] {
+    for (a, b) in [(512, 512), (512, 513), (1024, 0), (1, 1024)] {
         let first = random::lts_exact(&mut rng, 40, 8, a, 10);
         let second = random::lts_exact(&mut rng, 40, 8, b, 10);
         cases.push(Case::compare(&sheet::write(&first), &sheet::write(&second)));
     }
-    // Both too many pages and too many moves, and the largest flow that is not.
-    let first = random::lts_exact(&mut rng, 129, 4, 600, 10);
-    let second = random::lts_exact(&mut rng, 128, 4, 600, 10);
-    cases.push(Case::compare(&sheet::write(&first), &sheet::write(&second)));
+    // The largest flow that is not too large.
     let first = random::lts_exact(&mut rng, 128, 4, 512, 10);
     let second = random::lts_exact(&mut rng, 128, 6, 512, 10);
     assert!(compare::join(&first, &second).is_ok());
@@ -386,4 +346,42 @@ fn compare_refusals(cases: &mut Vec<Case>) {
     cases.push(Case::compare(&[], &[]));
     cases.push(Case::compare(&make::f1(), &[]));
     cases.push(Case::compare(&[], &make::f1()));
+}
+
+/// Some of the same sheets joined, in buffers of all lengths around the
+/// joined sheet's.
+fn joined(cases: &mut Vec<Case>) {
+    let pairs: Vec<(Vec<u8>, Vec<u8>)> = cases
+        .iter()
+        .filter(|case| case.op == 8)
+        .map(|case| (case.fields[0].clone(), case.fields[1].clone()))
+        .collect();
+    let small = |pair: &&(Vec<u8>, Vec<u8>)| pair.0.len() + pair.1.len() <= 300;
+    let lengths = |first: &[u8], second: &[u8]| {
+        let length = (first.len() + second.len()).saturating_sub(6);
+        [length, length.saturating_sub(1), length + 1, 0, length + 9]
+    };
+    for (i, (first, second)) in pairs.iter().filter(small).step_by(2).enumerate() {
+        let length = lengths(first, second)[[0, 1, 0, 2, 3, 0, 4][i % 7]];
+        cases.push(Case::join(first, second, &filled_bytes(length)));
+    }
+    // The first two pairs in every buffer.
+    for (first, second) in &pairs[..2] {
+        for length in lengths(first, second) {
+            cases.push(Case::join(first, second, &filled_bytes(length)));
+        }
+    }
+    // At and over the most pages and moves.
+    for (a, b) in [(128, 128), (128, 129), (1, 256)] {
+        let (first, second) = (sheet::write(&make::chain(a)), sheet::write(&make::chain(b)));
+        cases.push(Case::join(&first, &second, &filled_bytes(2_600)));
+    }
+    let mut rng = Prng::new(505);
+    for k in [512, 513] {
+        let first = random::lts_exact(&mut rng, 40, 64, 512, 10);
+        let second = random::lts_exact(&mut rng, 41, 8, k, 10);
+        let (first, second) = (sheet::write(&first), sheet::write(&second));
+        let length = if k == 512 { 7_176 } else { 9 };
+        cases.push(Case::join(&first, &second, &filled_bytes(length)));
+    }
 }

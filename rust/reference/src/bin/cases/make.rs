@@ -1,5 +1,6 @@
 //! Building blocks for the cases: flows of document 01, raw sheets, buffers.
 
+use crate::case::Case;
 use reference::grid;
 use reference::lts::Lts;
 use reference::relation::{Preorder, Relation};
@@ -52,6 +53,37 @@ pub fn refused_sheets() -> Vec<Vec<u8>> {
         f9(),
         twice.bytes(),
     ]
+}
+
+/// All pairs of three pages as a start.
+pub const F3_START: [u64; 3] = [7, 7, 7];
+
+/// Starts that are refused for three pages: a wrong length, a stray bit, not
+/// reflexive, not transitive, and several of these.
+pub const BAD_STARTS: [&[u64]; 11] = [
+    &[7, 7],
+    &[],
+    &[7, 7, 7, 0],
+    &[15, 7, 7],
+    &[7, 7, 1 << 63 | 7],
+    &[6, 7, 7],
+    &[7, 7, 3],
+    &[0, 0, 0],
+    &[3, 6, 4],
+    &[1, 3, 6],
+    &[6, 13, 0],
+];
+
+/// Cases of a call on a sheet and a start in which one or both are refused.
+/// `with` makes those of one sheet and one start.
+pub fn refused_inputs(cases: &mut Vec<Case>, with: impl Fn(&[u8], &[u64]) -> Vec<Case>) {
+    for sheet in refused_sheets() {
+        cases.extend(with(&sheet, &F3_START));
+        cases.extend(with(&sheet, BAD_STARTS[0]));
+    }
+    for start in BAD_STARTS {
+        cases.extend(with(&f3(), start));
+    }
 }
 
 /// The flow of `n` pages in a row, each with one move to the next.

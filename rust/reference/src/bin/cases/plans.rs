@@ -1,7 +1,10 @@
-//! Group plans: check plan (op 5) and write plan (op 6).
+//! Check plan and write plan, on numbers (ops 5 and 6), on entries (10 and 11)
+//! and on bytes (12 and 13).
 
 use crate::case::Case;
-use crate::make::{self, diagonal_words, end_words, filled_numbers, full_words, start_words};
+use crate::make::{
+    self, diagonal_words, end_words, filled_numbers, full_words, start_words, F3_START,
+};
 use reference::grid;
 use reference::lts::Lts;
 use reference::plans::{Entry, Rounds, Strategy};
@@ -10,7 +13,7 @@ use reference::random;
 use reference::relation::{Preorder, Relation};
 use reference::sheet;
 
-/// The cases of the group.
+/// The cases.
 pub fn cases() -> Vec<Case> {
     let mut cases = Vec::new();
     f5(&mut cases);
@@ -22,14 +25,12 @@ pub fn cases() -> Vec<Case> {
     buffers(&mut cases);
     refusals(&mut cases);
     long(&mut cases);
+    carried(&mut cases);
     cases
 }
 
 /// The plan of F5.
 const F5: [u16; 12] = [0, 1, 1, 1, 2, 1, 1, 2, 2, 0, 1, 2];
-
-/// All pairs of F3 as a start.
-const F3_START: [u64; 3] = [7, 7, 7];
 
 /// F5 and its parts.
 fn f5(cases: &mut Vec<Case>) {
@@ -106,7 +107,7 @@ fn damaged(cases: &mut Vec<Case>) {
     // A plan with entries of round 0 and later rounds.
     let mut rng = Prng::new(401);
     let mut found = 0;
-    while found < 3 {
+    while found < 2 {
         let lts = random::lts(&mut rng, 5, 2, 8, 20);
         let start = random::preorder(&mut rng, 5);
         let rounds = Rounds::of(&lts, &start);
@@ -117,7 +118,7 @@ fn damaged(cases: &mut Vec<Case>) {
         }
         let strategy = rounds.strategy(&lts, p, q).unwrap();
         let numbers = strategy.numbers();
-        if numbers.len() > 80 || strategy.entries[0].a != 0 {
+        if numbers.len() > 60 || strategy.entries[0].a != 0 {
             continue;
         }
         found += 1;
@@ -258,7 +259,7 @@ fn by_hand(cases: &mut Vec<Case>) {
 /// Plans of random flows: written, checked, damaged.
 fn random_flows(cases: &mut Vec<Case>) {
     let mut rng = Prng::new(402);
-    for _ in 0..110 {
+    for _ in 0..60 {
         let lts = random::small(&mut rng, 7, 3);
         let n = lts.states();
         let start = if rng.chance(50) {
@@ -403,30 +404,15 @@ fn buffers(cases: &mut Vec<Case>) {
 fn refusals(cases: &mut Vec<Case>) {
     let f3 = make::f3();
     let plan = filled_numbers(12);
-    let starts: [&[u64]; 8] = [
-        &[7, 7],
-        &[7, 7, 7, 7],
-        &[15, 7, 7],
-        &[7, 7, 3],
-        &[3, 6, 4],
-        &[0, 0, 0],
-        &[],
-        &[6, 13, 0],
-    ];
-    for sheet in make::refused_sheets() {
-        cases.push(Case::check_plan(&sheet, &F3_START, &F5));
-        cases.push(Case::check_plan(&sheet, &[7, 7], &[]));
-        cases.push(Case::write_plan(&sheet, &F3_START, &plan, 2, 0));
-        cases.push(Case::write_plan(&sheet, &[7, 7], &plan[..3], 3, 0));
-        cases.push(Case::write_plan(&sheet, &F3_START, &plan[..3], 0, 0));
-    }
-    for start in starts {
-        cases.push(Case::check_plan(&f3, start, &F5));
-        cases.push(Case::check_plan(&f3, start, &[]));
-        cases.push(Case::write_plan(&f3, start, &plan, 2, 0));
-        cases.push(Case::write_plan(&f3, start, &plan, 3, 0));
-        cases.push(Case::write_plan(&f3, start, &plan[..3], 0, 0));
-    }
+    make::refused_inputs(cases, |sheet, start| {
+        vec![
+            Case::check_plan(sheet, start, &F5),
+            Case::check_plan(sheet, start, &[]),
+            Case::write_plan(sheet, start, &plan, 2, 0),
+            Case::write_plan(sheet, start, &plan, 3, 0),
+            Case::write_plan(sheet, start, &plan[..3], 0, 0),
+        ]
+    });
     // A page argument at or above n, with a short buffer too.
     for (p, q) in [
         (3, 0),
@@ -470,8 +456,8 @@ fn refusals(cases: &mut Vec<Case>) {
 
 /// Long plans.
 fn long(cases: &mut Vec<Case>) {
-    // A chain of 70 pages: each pair (p, q) with p before q is dropped.
-    let lts = make::chain(70);
+    // A chain of 45 pages: each pair (p, q) with p before q is dropped.
+    let lts = make::chain(45);
     let (sheet, words) = (sheet::write(&lts), end_words(&lts));
     let rounds = Rounds::of(&lts, &grid::end_start_of(&lts));
     let numbers = rounds.strategy(&lts, 0, 1).unwrap().numbers();
@@ -512,11 +498,41 @@ fn long(cases: &mut Vec<Case>) {
         cases.push(Case::check_plan(&sheet, &words, &numbers));
     }
     // A buffer of the largest size for a plan of one entry.
-    cases.push(Case::write_plan(
-        &make::f3(),
-        &F3_START,
-        &filled_numbers(32_768),
-        0,
-        1,
-    ));
+    let f3 = make::f3();
+    let buffer = filled_numbers(4_096);
+    cases.push(Case::write_plan(&f3, &F3_START, &buffer, 0, 1));
+}
+
+/// The same calls on entries, where the plan has no part of one, and on bytes,
+/// also with bytes past the last entry.
+fn carried(cases: &mut Vec<Case>) {
+    let (small, large): (Vec<Case>, Vec<Case>) = cases
+        .iter()
+        .cloned()
+        .partition(|case| case.encode().len() <= 220);
+    for (i, case) in small.iter().chain(large.iter().step_by(20)).enumerate() {
+        let plan = case.fields[2].len();
+        if plan % 8 == 0 && plan <= 8_192 {
+            cases.push(case.on(case.op + 5, 2, &[]));
+        }
+        if i % 2 == 0 {
+            cases.push(case.on(case.op + 7, 2, &[9; 7][..i / 2 % 8]));
+        }
+    }
+    // As many entries as the reader has room for.
+    let f3 = make::f3();
+    let most = [&F5[..8], &F5[8..].repeat(1_022)].concat();
+    cases.push(Case::check_plan(&f3, &F3_START, &most).on(10, 2, &[]));
+    let buffer = Case::write_plan(&f3, &F3_START, &filled_numbers(4_096), 2, 0);
+    cases.push(buffer.on(11, 2, &[]));
+    // A chain of 45 pages: 990 entries.
+    let lts = make::chain(45);
+    let (sheet, words) = (sheet::write(&lts), end_words(&lts));
+    let rounds = Rounds::of(&lts, &grid::end_start_of(&lts));
+    let numbers = rounds.strategy(&lts, 0, 1).unwrap().numbers();
+    cases.push(Case::check_plan(&sheet, &words, &numbers).on(10, 2, &[]));
+    cases.push(Case::check_plan(&sheet, &words, &numbers).on(12, 2, &[1]));
+    let buffer = Case::write_plan(&sheet, &words, &filled_numbers(numbers.len()), 0, 1);
+    cases.push(buffer.on(11, 2, &[]));
+    cases.push(buffer.on(13, 2, &[1; 5]));
 }

@@ -1,4 +1,4 @@
-//! Group relations: end start (op 2) and test simulation (op 3).
+//! End start (op 2) and test simulation (op 3).
 
 use crate::case::Case;
 use crate::make::{
@@ -12,7 +12,7 @@ use reference::random;
 use reference::relation::{Preorder, Relation};
 use reference::sheet;
 
-/// The cases of the group.
+/// The cases.
 pub fn cases() -> Vec<Case> {
     let mut cases = Vec::new();
     end_starts(&mut cases);
@@ -51,16 +51,15 @@ fn end_starts(cases: &mut Vec<Case>) {
             add_end_start(cases, &marked(n, |p| marks >> p & 1 == 1));
         }
     }
-    for n in [63, 64, 65, 128, 129] {
+    for n in [64, 65, 129] {
         add_end_start(cases, &marked(n, |p| p + 1 == n));
         add_end_start(cases, &marked(n, |p| p % 3 == 0));
     }
-    for n in [63, 64, 65] {
+    for n in [63, 65] {
         add_end_start(cases, &marked(n, |_| false));
         add_end_start(cases, &marked(n, |_| true));
         add_end_start(cases, &marked(n, |p| p != 0));
     }
-    add_end_start(cases, &marked(193, |p| p == 192 || p == 63));
     add_end_start(cases, &marked(256, |p| p % 5 == 0));
     let mut rng = Prng::new(201);
     for _ in 0..20 {
@@ -79,7 +78,7 @@ fn end_start_refusals(cases: &mut Vec<Case>) {
     for length in [0, 1, 2, 4, 6, 1025] {
         cases.push(Case::end_start(&make::f3(), &filled_words(length)));
     }
-    for n in [63, 64, 65, 128] {
+    for n in [64, 65] {
         let sheet = sheet::write(&marked(n, |p| p % 2 == 1));
         let length = grid::length(n);
         for wrong in [length - 1, length + 1, n, 2 * n] {
@@ -187,17 +186,17 @@ fn small_claims(cases: &mut Vec<Case>) {
 /// n at and next to the multiples of 64.
 fn word_borders(cases: &mut Vec<Case>) {
     let mut rng = Prng::new(203);
-    for n in [1, 63, 64, 65, 128] {
+    for n in [1, 64, 65, 128] {
         let lts = random::lts(&mut rng, n, 2, 2 * n, 10);
         claims_of(cases, &mut rng, &lts, &grid::end_start_of(&lts), 1);
-        if n < 128 {
+        if n < 65 {
             let start = random::preorder(&mut rng, n);
             claims_of(cases, &mut rng, &lts, &start, 1);
         }
     }
     // Page 0 and the last page in a claim of two pairs: the last page's
     // column is in the last word.
-    for n in [63, 64, 65, 128] {
+    for n in [64, 65] {
         let last = n - 1;
         let lts = Lts::of(n, 1, &[(0, 1, last), (last, 1, 0)]);
         let sheet = sheet::write(&lts);
@@ -232,17 +231,11 @@ fn word_borders(cases: &mut Vec<Case>) {
         &words,
         &flipped(&claim, 256, p, q),
     ));
-    // The last page does not go to itself.
-    cases.push(Case::test_simulation(
-        &sheet,
-        &flipped(&words, 256, 255, 255),
-        &[],
-    ));
 }
 
 /// Length, stray bits, reflexive and transitive, at their edges.
 fn start_refusals(cases: &mut Vec<Case>) {
-    for n in [1, 2, 3, 63, 64, 65, 128] {
+    for n in [1, 2, 3, 64, 65] {
         let lts = Lts::of(n, 1, &[]);
         let sheet = sheet::write(&lts);
         let end = full_words(n);
@@ -263,21 +256,20 @@ fn start_refusals(cases: &mut Vec<Case>) {
         // Stray bits: the first one past n and the last of the row.
         if n % 64 != 0 {
             for q in [n, width - 1] {
-                add(&flipped(&end, n, 0, q), &diagonal);
+                add(&flipped(&end, n, 0, q), &[]);
                 add(&flipped(&diagonal, n, n - 1, q), &diagonal);
                 add(&diagonal, &flipped(&diagonal, n, n - 1, q));
             }
         }
         // Not reflexive.
-        for p in if n < 128 { vec![0, n - 1] } else { vec![n - 1] } {
-            add(&flipped(&diagonal, n, p, p), &diagonal);
+        for p in [0, n - 1] {
+            add(&flipped(&diagonal, n, p, p), &[]);
             add(&diagonal, &flipped(&diagonal, n, p, p));
         }
         // Not transitive: (0, middle) and (middle, last) without (0, last).
         if n >= 3 {
             let last = n - 1;
-            // At 128 pages the claim is left empty, to save space.
-            let claim = if n < 128 { &diagonal[..] } else { &[] };
+            let claim = if n < 64 { &diagonal[..] } else { &[] };
             let two = flipped(&flipped(&diagonal, n, 0, 1), n, 1, last);
             add(&two, claim);
             add(&flipped(&two, n, 0, last), claim);
@@ -285,10 +277,8 @@ fn start_refusals(cases: &mut Vec<Case>) {
             add(&back, claim);
             add(&flipped(&back, n, last, 0), claim);
             // All pairs without one.
-            if n < 128 {
-                add(&flipped(&end, n, 0, last), &diagonal);
-                add(&flipped(&end, n, last, 0), &diagonal);
-            }
+            add(&flipped(&end, n, 0, last), claim);
+            add(&flipped(&end, n, last, 0), claim);
         }
         if n == 2 {
             add(&[3, 2], &[3, 3]);
@@ -299,27 +289,16 @@ fn start_refusals(cases: &mut Vec<Case>) {
 
 /// Refusals that would hold at the same time.
 fn orders(cases: &mut Vec<Case>) {
-    let starts: [&[u64]; 6] = [
-        &[7, 7, 7],
-        &[7, 7],
-        &[7, 15, 7],
-        &[7, 7, 3],
-        &[3, 6, 4],
-        &[2, 4, 0],
-    ];
     let claims: [&[u64]; 3] = [&[1, 2, 4], &[1, 2], &[9, 2, 4]];
-    for sheet in make::refused_sheets() {
-        for (start, claim) in [(0, 0), (1, 0), (2, 1), (3, 2), (4, 0), (0, 1), (0, 2)] {
-            cases.push(Case::test_simulation(&sheet, starts[start], claims[claim]));
-        }
-    }
-    for start in starts {
+    make::refused_inputs(cases, |sheet, start| {
+        claims
+            .map(|claim| Case::test_simulation(sheet, start, claim))
+            .to_vec()
+    });
+    // Good starts, and a stray bit in one that is also not reflexive.
+    for start in [[7, 7, 7], [8, 2, 4], [1, 2, 12], [0, 0, 8]] {
         for claim in claims {
-            cases.push(Case::test_simulation(&make::f3(), start, claim));
+            cases.push(Case::test_simulation(&make::f3(), &start, claim));
         }
-    }
-    // A stray bit in a grid that is also not reflexive.
-    for start in [[8, 2, 4], [1, 2, 12], [0, 0, 8]] {
-        cases.push(Case::test_simulation(&make::f3(), &start, &[1, 2, 4]));
     }
 }

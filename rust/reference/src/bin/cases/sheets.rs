@@ -1,4 +1,4 @@
-//! Group sheets: reading and normal form (op 1).
+//! Normalise (op 1), read (op 9) and the text of flowcheck (op 16).
 
 use crate::case::Case;
 use crate::make::{self, filled_bytes, with_byte, RawSheet};
@@ -7,7 +7,7 @@ use reference::prng::Prng;
 use reference::random;
 use reference::sheet;
 
-/// The cases of the group.
+/// The cases.
 pub fn cases() -> Vec<Case> {
     let mut cases = Vec::new();
     document(&mut cases);
@@ -23,12 +23,21 @@ pub fn cases() -> Vec<Case> {
     random_flows(&mut cases);
     large(&mut cases);
     out_lengths(&mut cases);
+    read(&mut cases);
+    text(&mut cases);
     cases
 }
 
-/// A sheet with an out buffer of its own length.
+/// A sheet with an out buffer of its own length, which is cut where a long
+/// sheet is refused.
 fn add(cases: &mut Vec<Case>, sheet: &[u8]) {
-    cases.push(Case::normalise(sheet, &filled_bytes(sheet.len())));
+    let readable = sheet::read(sheet).is_ok();
+    let length = if readable {
+        sheet.len()
+    } else {
+        sheet.len().min(100)
+    };
+    cases.push(Case::normalise(sheet, &filled_bytes(length)));
 }
 
 /// A readable sheet that the record tests damage: 3 pages, 2 actions and 4
@@ -390,17 +399,13 @@ fn large(cases: &mut Vec<Case>) {
     let full = random::lts_exact(&mut rng, 256, 64, 1024, 40);
     let sheet = random::shuffled_sheet(&mut rng, &full);
     add(cases, &sheet);
-    add(cases, &sheet::write(&full));
     // A second visit, a record on no chain, a repeat, far down the sheet.
     let at_record = |i: usize| 6 + 4 * 256 + 6 * (i - 1);
     add(
         cases,
         &with_byte(&sheet, at_record(1024) + 4, sheet[at_record(1024) + 4] ^ 1),
     );
-    add(cases, &with_byte(&sheet, at_record(1024) + 1, 1));
     add(cases, &with_byte(&sheet, 6 + 4 * 255 + 1, 1));
-    add(cases, &make::longer(&sheet, 0));
-    add(cases, &make::shorter(&sheet));
     // One page with a chain of 1,024 records, linked from the last to the first.
     let backwards = |last: (u8, u16)| {
         let moves: Vec<_> = (0..1024u16)
@@ -433,21 +438,55 @@ fn large(cases: &mut Vec<Case>) {
 /// Out buffers of other lengths.
 fn out_lengths(cases: &mut Vec<Case>) {
     for sheet in [make::f1(), make::f3(), base().bytes()] {
-        for length in [
-            0,
-            1,
-            6,
-            sheet.len() - 1,
-            sheet.len() + 1,
-            sheet.len() + 6,
-            7180,
-        ] {
+        for length in [0, 1, 6, sheet.len() - 1, sheet.len() + 1, sheet.len() + 6] {
             cases.push(Case::normalise(&sheet, &filled_bytes(length)));
         }
     }
+    cases.push(Case::normalise(&make::f3(), &filled_bytes(7180)));
     for sheet in make::refused_sheets() {
         cases.push(Case::normalise(&sheet, &filled_bytes(0)));
         cases.push(Case::normalise(&sheet, &filled_bytes(sheet.len() + 1)));
     }
     cases.push(Case::normalise(&[], &filled_bytes(3)));
+}
+
+/// The sheets above that are not large, read.
+fn read(cases: &mut Vec<Case>) {
+    let sheets: Vec<Vec<u8>> = cases.iter().map(|case| case.fields[0].clone()).collect();
+    let (small, large): (Vec<_>, Vec<_>) = sheets.into_iter().partition(|s| s.len() <= 100);
+    let large = large.iter().filter(|sheet| sheet.len() <= 3_000);
+    for sheet in small.iter().step_by(2).chain(large.step_by(6)) {
+        cases.push(Case::read(sheet));
+    }
+    // The most actions, pages and moves, and one more of each.
+    for m in [64, 65] {
+        cases.push(Case::read(&RawSheet::of(m, &[1], &[(64, 0, 0)]).bytes()));
+    }
+    for (n, k) in [(256, 1024), (257, 1023), (255, 1025)] {
+        let moves: Vec<_> = (0..k).map(|i| (1 + (i / 255) as u8, i % 255, i)).collect();
+        let mut firsts = vec![0; n];
+        firsts[n - 1] = k;
+        cases.push(Case::read(&RawSheet::of(64, &firsts, &moves).bytes()));
+    }
+}
+
+/// Texts of refused sheets, of small flows and of the largest.
+fn text(cases: &mut Vec<Case>) {
+    let flows = [make::f1(), make::f2(), make::f3(), make::f4()];
+    for sheet in flows.into_iter().chain(make::refused_sheets()) {
+        cases.push(Case::text(&sheet));
+    }
+    let mut rng = Prng::new(104);
+    for _ in 0..60 {
+        let lts = random::small(&mut rng, 9, 3);
+        cases.push(Case::text(&random::shuffled_sheet(&mut rng, &lts)));
+    }
+    for n in [10, 11, 64, 65, 100, 101, 256] {
+        cases.push(Case::text(&sheet::write(&make::chain(n))));
+        cases.push(Case::text(&sheet::write(&Lts::of(n, 1, &[]))));
+    }
+    let full = random::lts_exact(&mut rng, 256, 64, 1024, 40);
+    let sheet = random::shuffled_sheet(&mut rng, &full);
+    cases.push(Case::text(&sheet));
+    cases.push(Case::text(&make::longer(&sheet, 0)));
 }

@@ -1,0 +1,96 @@
+//! The joined flow of a site and its rules, and the proved calls on it.
+
+use flow::{Compared, Entry, Grid, Pair, Refusal, ENTRY_BYTES};
+use std::ops::Range;
+
+/// The joined flow of two sheets that compare has read.
+pub struct Joined {
+    sheet: Vec<u8>,
+    /// The end start.
+    start: Grid,
+    /// The start that holds each page with itself alone.
+    diagonal: Grid,
+    /// The pages that come from the rules' sheet, behind the site's.
+    pub rules: Range<u16>,
+}
+
+/// The header's count of pages.
+fn pages(sheet: &[u8]) -> u16 {
+    u16::from_le_bytes([sheet[0], sheet[1]])
+}
+
+/// What it means that a call refuses here.
+fn unexpected(call: &'static str) -> impl Fn(Refusal) -> String {
+    move |refusal| format!("{call} gives '{refusal}' on sheets that compare has read")
+}
+
+impl Joined {
+    /// Joins two sheets.
+    pub fn new(site: &[u8], rules: &[u8]) -> Result<Joined, String> {
+        let mut sheet = vec![0; site.len() + rules.len()];
+        let length = flow::join(site, rules, &mut sheet).map_err(unexpected("join"))?;
+        sheet.truncate(length);
+        let rules = pages(site)..pages(&sheet);
+        let mut start = Grid::new(rules.end.into());
+        flow::end_start(&sheet, start.bytes_mut()).map_err(unexpected("end start"))?;
+        Ok(Joined {
+            sheet,
+            start,
+            diagonal: Grid::diagonal(rules.end.into()),
+            rules,
+        })
+    }
+
+    /// The pair that compare is about: page 0 of each sheet.
+    pub fn pair(&self) -> Pair {
+        Pair {
+            p: 0,
+            q: self.rules.start,
+        }
+    }
+
+    /// Does coarsest on the joined sheet say what compare says?
+    pub fn confirm(&self, compared: Compared) -> Result<(), String> {
+        let pages = usize::from(self.rules.end);
+        let (mut kept, mut names) = (Grid::new(pages), vec![0; 2 * pages]);
+        let counts = flow::coarsest(
+            &self.sheet,
+            self.start.bytes(),
+            &[],
+            kept.bytes_mut(),
+            &mut names,
+        )
+        .map_err(unexpected("coarsest"))?;
+        let Pair { p, q } = self.pair();
+        if kept.holds(p.into(), q.into()) != compared.yes || counts.turns != compared.turns {
+            return Err("coarsest on the joined sheet does not confirm compare".to_string());
+        }
+        Ok(())
+    }
+
+    /// The plan for the pair, written by write plan and accepted by check plan.
+    pub fn plan(&self) -> Result<Vec<Entry>, String> {
+        let (pages, pair) = (usize::from(self.rules.end), self.pair());
+        let mut plan = vec![0; ENTRY_BYTES * pages * pages];
+        let (p, q) = (pair.p.into(), pair.q.into());
+        let count = flow::write_plan(&self.sheet, self.start.bytes(), p, q, &mut plan)
+            .map_err(unexpected("write plan"))?;
+        plan.truncate(ENTRY_BYTES * count);
+        let checked = flow::check_plan(&self.sheet, self.start.bytes(), &plan)
+            .map_err(unexpected("check plan"))?;
+        if checked != pair {
+            return Err("check plan gives another pair than the plan is for".to_string());
+        }
+        Ok(flow::entries(&plan).collect())
+    }
+
+    /// Does check plan accept these entries from the diagonal?
+    pub fn accepts(&self, entries: impl Iterator<Item = Entry>) -> Result<bool, String> {
+        let plan: Vec<u8> = entries.flat_map(Entry::bytes).collect();
+        match flow::check_plan(&self.sheet, self.diagonal.bytes(), &plan) {
+            Ok(_) => Ok(true),
+            Err(Refusal::Unsound) => Ok(false),
+            Err(refusal) => Err(unexpected("check plan")(refusal)),
+        }
+    }
+}

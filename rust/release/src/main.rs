@@ -1,0 +1,127 @@
+//! `release [--entries] [--json] SITE RULES`: may the site be released under
+//! its access rules?
+//!
+//! SITE and RULES are files with one sheet each. The answer comes from proved
+//! calls alone; of the sheets the tool itself reads no more than the count of
+//! pages in the header.
+//!
+//! | Status | First line | When |
+//! |---|---|---|
+//! | 0 | `open` | compare says yes: the rules can follow the site in everything |
+//! | 1 | `closed` | compare says no; the lines after it tell why |
+//! | 2 | `refused` and a number | a sheet is refused |
+//! | 2 | none; one line on standard error | bad usage, a file that cannot be read, an output that cannot be written, an internal failure |
+//!
+//! With `--entries` the plan's bare entries stand in the place of the story,
+//! with the page numbers of the joined flow. With `--json` the same content
+//! is one JSON object on one line, a failure's line too.
+
+#![deny(unsafe_code)]
+
+mod joined;
+mod json;
+mod replies;
+mod story;
+mod text;
+mod verdict;
+
+#[cfg(test)]
+mod tests;
+
+use std::ffi::OsString;
+use std::fs::File;
+use std::io::{self, Read, Write};
+use std::panic;
+use std::path::{Path, PathBuf};
+use std::process::ExitCode;
+use verdict::Verdict;
+
+/// The status where there is no verdict.
+const NO_VERDICT: u8 = 2;
+
+/// The longest sheet has 7,174 bytes. One byte more is enough to refuse a
+/// longer file as the whole of it would be.
+const MOST_BYTES: u64 = 7_175;
+
+/// What the tool is asked for.
+struct Request {
+    site: PathBuf,
+    rules: PathBuf,
+    entries: bool,
+    json: bool,
+}
+
+fn main() -> ExitCode {
+    let Some(request) = request(std::env::args_os().skip(1)) else {
+        let _ = writeln!(
+            io::stderr(),
+            "usage: release [--entries] [--json] SITE RULES"
+        );
+        return ExitCode::from(NO_VERDICT);
+    };
+    let found = find(&request);
+    if let Err(message) = &found {
+        complain(message);
+    }
+    let text = if request.json {
+        json::line(&found)
+    } else {
+        found.as_ref().map(text::lines).unwrap_or_default()
+    };
+    let mut out = io::stdout();
+    if let Err(error) = out.write_all(text.as_bytes()).and_then(|()| out.flush()) {
+        complain(&format!("standard output: {error}"));
+        return ExitCode::from(NO_VERDICT);
+    }
+    ExitCode::from(match found {
+        Ok(Verdict::Open { .. }) => 0,
+        Ok(Verdict::Closed { .. }) => 1,
+        Ok(Verdict::Refused { .. }) | Err(_) => NO_VERDICT,
+    })
+}
+
+/// One line on standard error, if that is open.
+fn complain(message: &str) {
+    let line = message.replace(char::is_control, " ");
+    let _ = writeln!(io::stderr(), "release: {line}");
+}
+
+/// The words of the call; none if there is a wrong one.
+fn request(words: impl Iterator<Item = OsString>) -> Option<Request> {
+    let (mut paths, mut entries, mut json) = (Vec::new(), false, false);
+    for word in words {
+        match word.to_str() {
+            Some("--entries") => entries = true,
+            Some("--json") => json = true,
+            Some(option) if option.starts_with('-') => return None,
+            _ => paths.push(PathBuf::from(word)),
+        }
+    }
+    let [site, rules] = paths.try_into().ok()?;
+    Some(Request {
+        site,
+        rules,
+        entries,
+        json,
+    })
+}
+
+/// Reads the files and gives the verdict, or one line that says why there is
+/// none. The wrapper panics where a result of the archive stands for no
+/// answer: that is such a reason too.
+fn find(request: &Request) -> Result<Verdict, String> {
+    let (site, rules) = (read(&request.site)?, read(&request.rules)?);
+    panic::set_hook(Box::new(|_| ()));
+    panic::catch_unwind(|| verdict::judge(&site, &rules, request.entries))
+        .unwrap_or_else(|panic| Err(panic.downcast_ref::<String>().cloned().unwrap_or_default()))
+        .map_err(|message| format!("internal failure: {message}"))
+}
+
+/// The bytes of a file, as many as can be a sheet's.
+fn read(path: &Path) -> Result<Vec<u8>, String> {
+    let mut bytes = Vec::new();
+    File::open(path)
+        .and_then(|file| file.take(MOST_BYTES).read_to_end(&mut bytes))
+        .map_err(|error| format!("{}: {error}", path.display()))?;
+    Ok(bytes)
+}

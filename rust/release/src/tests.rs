@@ -1,0 +1,274 @@
+//! Verdicts and stories, against the independent program.
+
+use crate::joined::Joined;
+use crate::story::{self, Reply, Step, Why};
+use crate::text;
+use crate::verdict::{judge, Reason, Sheet, Verdict};
+use differential::flows::{self, Sizes};
+use flow::{Compared, Entry, Refusal};
+use reference::lts::{Lts, Transition};
+use reference::plans::Rounds;
+use reference::prng::Prng;
+use reference::{compare, grid, random, sheet};
+use std::collections::HashSet;
+
+/// The steps for two sheets; none where the verdict is open.
+fn steps(site: &[u8], rules: &[u8]) -> Option<Vec<Step>> {
+    match judge(site, rules, false).unwrap() {
+        Verdict::Open { .. } => None,
+        Verdict::Closed {
+            reason: Reason::Story(steps),
+            ..
+        } => Some(steps),
+        other => panic!("{other:?}"),
+    }
+}
+
+/// The text for two flows.
+fn text(site: &Lts, rules: &Lts) -> String {
+    let (site, rules) = (sheet::write(site), sheet::write(rules));
+    text::lines(&judge(&site, &rules, false).unwrap())
+}
+
+/// A flow with one end mark.
+fn marked(page: usize, lts: &Lts) -> Lts {
+    let mut marks = lts.end_marks().to_vec();
+    marks[page] = true;
+    Lts::new(lts.actions(), marks, lts.transitions().to_vec())
+}
+
+#[test]
+fn a_move_without_reply() {
+    let site = Lts::of(5, 3, &[(0, 3, 4)]);
+    let rules = Lts::of(2, 3, &[(0, 1, 1), (1, 3, 1)]);
+    let told = "closed\nstep 1 (site at page 0, rules at page 0): \
+        the site moves 0 -3-> 4; the rules at page 0 have no move 3\n";
+    assert_eq!(text(&site, &rules), told);
+}
+
+#[test]
+fn an_end_mark() {
+    let (one, marked) = (Lts::of(1, 0, &[]), marked(0, &Lts::of(1, 0, &[])));
+    let told = "closed\nstep 1 (site at page 0, rules at page 0): \
+        page 0 of the site has the end mark, page 0 of the rules has not\n";
+    assert_eq!(text(&marked, &one), told);
+    assert_eq!(text(&one, &marked), "open\n");
+    assert_eq!(text(&marked, &marked), "open\n");
+}
+
+/// The rules reply with page 1, which has no move 2, or with page 3, which has
+/// no end mark; page 2 has both, but no move leads there.
+#[test]
+fn every_reply_and_no_other_page() {
+    let site = marked(1, &Lts::of(3, 2, &[(0, 1, 1), (1, 2, 2)]));
+    let rules = Lts::of(4, 2, &[(0, 1, 1), (0, 1, 3), (2, 2, 2), (3, 2, 0)]);
+    let rules = marked(1, &marked(2, &rules));
+    let steps = steps(&sheet::write(&site), &sheet::write(&rules)).unwrap();
+    let step = |site, rules, why| Step { site, rules, why };
+    let moves = |action, target, replies: &[(u16, usize)]| Why::Move {
+        action,
+        target,
+        replies: replies
+            .iter()
+            .map(|&(page, step)| Reply { page, step })
+            .collect(),
+    };
+    let expected = [
+        step(0, 0, moves(1, 1, &[(1, 2), (3, 3)])),
+        step(1, 1, moves(2, 2, &[])),
+        step(1, 3, Why::EndMark),
+    ];
+    assert_eq!(steps, expected);
+    let told = "closed\n\
+        step 1 (site at page 0, rules at page 0): the site moves 0 -1-> 1; \
+        whatever the rules answer from page 0 by action 1:\n\
+        \x20 page 1: see step 2\n\
+        \x20 page 3: see step 3\n\
+        step 2 (site at page 1, rules at page 1): the site moves 1 -2-> 2; \
+        the rules at page 1 have no move 2\n\
+        step 3 (site at page 1, rules at page 3): \
+        page 1 of the site has the end mark, page 3 of the rules has not\n";
+    assert_eq!(text(&site, &rules), told);
+}
+
+/// Holds every step to the flows: the site's move is there, the replies are
+/// all that the rules have, each is beaten by a later step; an end mark is
+/// there and not there; the pair is dropped; no pair is told twice, and none
+/// that no earlier step needs.
+fn is_right(site: &Lts, rules: &Lts, steps: &[Step]) {
+    let joined = compare::join(site, rules).unwrap();
+    let rounds = Rounds::of(&joined, &grid::end_start_of(&joined));
+    let pairs: Vec<(u16, u16)> = steps.iter().map(|step| (step.site, step.rules)).collect();
+    assert_eq!(pairs.iter().collect::<HashSet<_>>().len(), pairs.len());
+    let mut needed = HashSet::from([(0, 0)]);
+    for (number, step) in (1..).zip(steps) {
+        let (p, q) = (usize::from(step.site), usize::from(step.rules));
+        assert!(needed.contains(&(step.site, step.rules)), "{steps:?}");
+        assert!(rounds.falls_at(p, site.states() + q).is_some(), "{steps:?}");
+        match &step.why {
+            Why::EndMark => assert!(site.has_end_mark(p) && !rules.has_end_mark(q)),
+            Why::Move {
+                action,
+                target,
+                replies,
+            } => {
+                let own = Transition {
+                    source: p,
+                    action: usize::from(*action),
+                    target: usize::from(*target),
+                };
+                assert!(site.has(own), "{steps:?}");
+                let pages = replies.iter().map(|reply| usize::from(reply.page));
+                let all = rules.replies(q, own.action).iter().map(|r| r.target);
+                assert!(pages.eq(all), "{steps:?}");
+                for reply in replies {
+                    assert!(reply.step > number, "{steps:?}");
+                    assert_eq!(pairs[reply.step - 1], (*target, reply.page));
+                    needed.insert((*target, reply.page));
+                }
+            }
+        }
+    }
+    assert_eq!(needed.len(), pairs.len());
+}
+
+/// Two flows of many shapes, unlike ones or with a few moves less.
+fn flows(rng: &mut Prng, sizes: Sizes) -> [Lts; 2] {
+    let site = flows::flow(rng, sizes);
+    if rng.chance(40) {
+        return [site, flows::flow(rng, sizes)];
+    }
+    let rules = random::fewer(rng, &site, 2);
+    [site, rules]
+}
+
+#[test]
+fn stories_of_many_flows() {
+    let sizes = Sizes {
+        large: 0,
+        edges: 100,
+    };
+    let mut rng = Prng::new(16);
+    let (mut open, mut longest, mut most_replies) = (0, 0, 0);
+    for _ in 0..6_000 {
+        let [site, rules] = flows(&mut rng, sizes);
+        let sheets = [&site, &rules].map(|lts| random::shuffled_sheet(&mut rng, lts));
+        let Ok((yes, _)) = compare::compare(&sheets[0], &sheets[1]) else {
+            continue; // Too many moves together.
+        };
+        let told = steps(&sheets[0], &sheets[1]);
+        assert_eq!(told.is_none(), yes);
+        let Some(steps) = told else {
+            open += 1;
+            continue;
+        };
+        is_right(&site, &rules, &steps);
+        longest = longest.max(steps.len());
+        for step in &steps {
+            if let Why::Move { replies, .. } = &step.why {
+                most_replies = most_replies.max(replies.len());
+            }
+        }
+    }
+    assert!(open > 1_000 && open < 5_000, "{open} are open");
+    assert!(longest > 40 && most_replies > 8, "{longest} {most_replies}");
+}
+
+/// The rules can leave a path of 128 pages one page earlier than the site.
+#[test]
+fn a_long_story() {
+    let path =
+        |n: usize| -> Vec<(usize, usize, usize)> { (0..n - 1).map(|p| (p, 1, p + 1)).collect() };
+    let site = Lts::of(128, 1, &path(128));
+    let rules = Lts::of(127, 1, &path(127));
+    let steps = steps(&sheet::write(&site), &sheet::write(&rules)).unwrap();
+    assert_eq!(steps.len(), 127);
+    is_right(&site, &rules, &steps);
+    // At the limits of pages and moves, with many replies.
+    let mut rng = Prng::new(17);
+    for _ in 0..5 {
+        let site = random::forward(&mut rng, 128, 2, 10);
+        let k = 1_024 - site.transitions().len();
+        let rules = random::lts_exact(&mut rng, 128, 2, k, 30);
+        let sheets = [&site, &rules].map(sheet::write);
+        if let Some(steps) = self::steps(&sheets[0], &sheets[1]) {
+            is_right(&site, &rules, &steps);
+        }
+    }
+}
+
+#[test]
+fn entries_are_the_written_plan() {
+    let sizes = Sizes { large: 0, edges: 0 };
+    let mut rng = Prng::new(18);
+    let mut closed = 0;
+    for _ in 0..500 {
+        let [site, rules] = flows(&mut rng, sizes);
+        let verdict = judge(&sheet::write(&site), &sheet::write(&rules), true).unwrap();
+        let Verdict::Closed { reason, .. } = verdict else {
+            continue;
+        };
+        let joined = compare::join(&site, &rules).unwrap();
+        let rounds = Rounds::of(&joined, &grid::end_start_of(&joined));
+        let plan = rounds.strategy(&joined, 0, site.states()).unwrap();
+        let entry = |e: &reference::plans::Entry| Entry {
+            p: e.p,
+            q: e.q,
+            a: e.a,
+            t: e.t,
+        };
+        let entries = plan.entries.iter().map(entry).collect();
+        assert_eq!(reason, Reason::Entries(entries));
+        closed += 1;
+    }
+    assert!(closed > 100, "{closed} are closed");
+}
+
+#[test]
+fn refusals_name_their_sheet() {
+    let good = sheet::write(&Lts::of(2, 1, &[(0, 1, 1)]));
+    let mut bad = good.clone();
+    bad[6] = 2;
+    let refused = |refusal, sheet| Ok(Verdict::Refused { refusal, sheet });
+    let page = Refusal::PageRecord;
+    assert_eq!(judge(&bad, &good, false), refused(page, Some(Sheet::First)));
+    assert_eq!(
+        judge(&good, &bad, false),
+        refused(page, Some(Sheet::Second))
+    );
+    assert_eq!(
+        judge(&bad, &good[..5], false),
+        refused(page, Some(Sheet::First))
+    );
+    let large = sheet::write(&Lts::of(255, 0, &[]));
+    assert_eq!(judge(&good, &large, false), refused(Refusal::Joined, None));
+}
+
+/// What the proved calls would not give is a failure, and no story.
+#[test]
+fn disagreement_is_a_failure() {
+    let site = sheet::write(&Lts::of(2, 1, &[(0, 1, 1), (1, 1, 1)]));
+    let rules = sheet::write(&Lts::of(2, 1, &[(0, 1, 1)]));
+    let joined = Joined::new(&site, &rules).unwrap();
+    let compared = flow::compare(&site, &rules).unwrap();
+    assert!(!compared.yes && joined.confirm(compared).is_ok());
+    let yes = Compared {
+        yes: true,
+        ..compared
+    };
+    let turns = Compared {
+        turns: compared.turns + 1,
+        ..compared
+    };
+    assert!(joined.confirm(yes).is_err() && joined.confirm(turns).is_err());
+
+    let plan = joined.plan().unwrap();
+    assert!(story::tell(&joined, &plan).is_ok());
+    let last = plan.len() - 1;
+    assert!(story::tell(&joined, &plan[last..]).is_err());
+    assert!(story::tell(&joined, &plan[..last]).is_err());
+    let mut other = plan.clone();
+    other[last].t = 0;
+    assert!(story::tell(&joined, &other).is_err());
+    assert!(Joined::new(&site, &rules[1..]).is_err());
+}

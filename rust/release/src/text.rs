@@ -1,0 +1,58 @@
+//! A verdict in lines of text.
+
+use crate::story::{Step, Why};
+use crate::verdict::{Reason, Verdict};
+
+/// The lines that the tool prints.
+pub fn lines(verdict: &Verdict) -> String {
+    match verdict {
+        Verdict::Open { .. } => "open\n".to_string(),
+        Verdict::Closed { reason, .. } => format!("closed\n{}", why(reason)),
+        Verdict::Refused { refusal, sheet } => match sheet {
+            Some(sheet) => format!("{refusal} ({sheet} sheet)\n"),
+            None => format!("{refusal}\n"),
+        },
+    }
+}
+
+/// The story, or the entries one a line.
+fn why(reason: &Reason) -> String {
+    match reason {
+        Reason::Story(steps) => steps
+            .iter()
+            .enumerate()
+            .map(|(at, step)| told(at + 1, step))
+            .collect(),
+        Reason::Entries(entries) => entries.iter().map(|entry| format!("{entry}\n")).collect(),
+    }
+}
+
+/// One step.
+fn told(number: usize, step: &Step) -> String {
+    let Step { site, rules, why } = step;
+    let mut text = format!("step {number} (site at page {site}, rules at page {rules}): ");
+    match why {
+        Why::EndMark => {
+            text += &format!(
+                "page {site} of the site has the end mark, page {rules} of the rules has not\n"
+            )
+        }
+        Why::Move {
+            action,
+            target,
+            replies,
+        } => {
+            text += &format!("the site moves {site} -{action}-> {target}; ");
+            text += &match replies.is_empty() {
+                true => format!("the rules at page {rules} have no move {action}\n"),
+                false => {
+                    format!("whatever the rules answer from page {rules} by action {action}:\n")
+                }
+            };
+            for reply in replies {
+                text += &format!("  page {}: see step {}\n", reply.page, reply.step);
+            }
+        }
+    }
+    text
+}

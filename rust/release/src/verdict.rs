@@ -1,0 +1,81 @@
+//! The verdict on a site and its rules.
+
+use crate::joined::Joined;
+use crate::story::{self, Step};
+use flow::{Entry, Refusal};
+use std::fmt;
+
+/// What the calls say.
+#[derive(Clone, PartialEq, Eq, Debug)]
+pub enum Verdict {
+    /// Compare's yes.
+    Open { turns: u16 },
+    /// Compare's no, and why.
+    Closed { turns: u16, reason: Reason },
+    /// A refusal of compare, and the sheet that it is about. None for a
+    /// joined flow that is too large.
+    Refused {
+        refusal: Refusal,
+        sheet: Option<Sheet>,
+    },
+}
+
+/// Why the rules cannot follow the site.
+#[derive(Clone, PartialEq, Eq, Debug)]
+pub enum Reason {
+    /// The plan, told as a game.
+    Story(Vec<Step>),
+    /// The plan's entries.
+    Entries(Vec<Entry>),
+}
+
+/// One of the two sheets.
+#[derive(Clone, Copy, PartialEq, Eq, Debug)]
+pub enum Sheet {
+    First,
+    Second,
+}
+
+impl fmt::Display for Sheet {
+    fn fmt(&self, f: &mut fmt::Formatter<'_>) -> fmt::Result {
+        f.write_str(match self {
+            Sheet::First => "first",
+            Sheet::Second => "second",
+        })
+    }
+}
+
+/// Compares, and says why where the answer is no: by the plan's entries, or by
+/// its story. An error is a line on how the proved calls disagree.
+pub fn judge(site: &[u8], rules: &[u8], entries: bool) -> Result<Verdict, String> {
+    let compared = match flow::compare(site, rules) {
+        Ok(compared) => compared,
+        Err(refusal) => return refused(site, rules, refusal),
+    };
+    let joined = Joined::new(site, rules)?;
+    joined.confirm(compared)?;
+    let turns = compared.turns;
+    if compared.yes {
+        return Ok(Verdict::Open { turns });
+    }
+    let plan = joined.plan()?;
+    let reason = if entries {
+        Reason::Entries(plan)
+    } else {
+        Reason::Story(story::tell(&joined, &plan)?)
+    };
+    Ok(Verdict::Closed { turns, reason })
+}
+
+/// Which sheet a refusal of compare is about. Compare reads the first sheet
+/// through, then the second; normalise reads one alone by the same rules.
+fn refused(site: &[u8], rules: &[u8], refusal: Refusal) -> Result<Verdict, String> {
+    let alone = |sheet: &[u8]| flow::normalise(sheet, &mut vec![0; sheet.len()]).err();
+    let sheet = match (alone(site), alone(rules)) {
+        (Some(own), _) if own == refusal => Some(Sheet::First),
+        (None, Some(own)) if own == refusal => Some(Sheet::Second),
+        (None, None) if refusal == Refusal::Joined => None,
+        _ => return Err(format!("normalise does not confirm compare's '{refusal}'")),
+    };
+    Ok(Verdict::Refused { refusal, sheet })
+}
