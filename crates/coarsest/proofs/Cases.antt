@@ -13,7 +13,7 @@ use Rattle.lts.proofs.Rule.{numbered}
 use Rattle.lts.specs.declared.Refusal.the-variants.{Length, NotReflexive, Buffer}
 use Rattle.encoding.proofs.Sheets.{F3}
 use Rattle.encoding.specs.Records.{numberAt, headerOf, stateRecordAt, transitionRecordAt, stateRecord, transitionRecord}
-use Rattle.encoding.specs.Encoding.{inRange, stateFits, transitionFits, statesFit, transitionsFit, walk, chain, reached, member, distinct, chainsFit, successor, successorsFit, headedRules, sheetRules}
+use Rattle.encoding.specs.Encoding.{inRange, stateFits, transitionFits, statesFit, transitionsFit, walk, chain, reached, member, onSomeChain, allReached, indices, occurrences, namedTwice, noneTwice, distinct, successor, successorsFit, headedRules, sheetRules}
 use Rattle.encoding.specs.Denotation.{any, ltsOf}
 use Rattle.rows.specs.Rows.{bit, wordOf, wordAt}
 use Rattle.relation.specs.Matrix.{inMatrix, matrixOf}
@@ -29,19 +29,19 @@ blank = 0 ∷ 0 ∷ 0 ∷ []
 
 -- no page has an end mark, so the end start is all pairs: 2 turns, 6 kept, 3 blocks
 done : coarsestCall F3 all [] blank blank ≡ record { reply = given (2 ∷ 6 ∷ 3 ∷ []); grid = 5 ∷ 7 ∷ 4 ∷ []; representatives = 0 ∷ 1 ∷ 2 ∷ [] }
-unfolding numberAt headerOf stateRecordAt transitionRecordAt stateRecord transitionRecord inRange stateFits transitionFits allBelow statesFit transitionsFit walk chain concatBelow reached member distinct chainsFit successor successorsFit headedRules sheetRules broken checked any ltsOf isMatrix reflexiveBelow transitiveBelow transitiveAt transitivePair startRules inputRules bit wordOf wordAt inMatrix matrixOf coarsestRules refined coarsestCall anyBelow sumBelow countBelow passing listBelow lowest restrict allStates anyState allActions into run step stepOf eachAction chosen pending isRepresentative representative representativesOf block coarsest initial pairCount blockCount refine split prune remove xor
+unfolding numberAt headerOf stateRecordAt transitionRecordAt stateRecord transitionRecord inRange stateFits transitionFits allBelow statesFit transitionsFit walk chain concatBelow reached member onSomeChain allReached indices occurrences namedTwice noneTwice distinct successor successorsFit headedRules sheetRules broken checked any ltsOf isMatrix reflexiveBelow transitiveBelow transitiveAt transitivePair startRules inputRules bit wordOf wordAt inMatrix matrixOf coarsestRules refined coarsestCall anyBelow sumBelow countBelow passing listBelow lowest restrict allStates anyState allActions into run step stepOf eachAction chosen pending isRepresentative representative representativesOf block coarsest initial pairCount blockCount refine split prune remove xor
 done = refl
 
 -- too few bytes come before a start that is not reflexive, and that before a buffer that is too short; the buffers stay
 refusals : (coarsestCall [] blank [] blank [] ≡ record { reply = refused Length; grid = blank; representatives = [] })
     × (coarsestCall F3 blank [] blank [] ≡ record { reply = refused NotReflexive; grid = blank; representatives = [] })
     × (coarsestCall F3 all [] blank [] ≡ record { reply = refused Buffer; grid = blank; representatives = [] })
-unfolding numberAt headerOf stateRecordAt transitionRecordAt stateRecord transitionRecord inRange stateFits transitionFits allBelow statesFit transitionsFit walk chain concatBelow reached member distinct chainsFit successor successorsFit headedRules sheetRules broken checked isMatrix reflexiveBelow transitiveBelow transitiveAt transitivePair startRules inputRules bit inMatrix coarsestRules coarsestCall
+unfolding numberAt headerOf stateRecordAt transitionRecordAt stateRecord transitionRecord inRange stateFits transitionFits allBelow statesFit transitionsFit walk chain concatBelow reached member listBelow lowest onSomeChain allReached indices occurrences namedTwice noneTwice distinct successor successorsFit headedRules sheetRules broken checked isMatrix reflexiveBelow transitiveBelow transitiveAt transitivePair startRules inputRules bit inMatrix coarsestRules coarsestCall
 refusals = (refl, refl, refl)
 
 -- ## Wrong outcomes that the promise refuses, whatever else came back
 rules-kept : broken (coarsestRules F3 all blank blank) ≡ Nothing
-unfolding numberAt headerOf stateRecordAt transitionRecordAt stateRecord transitionRecord inRange stateFits transitionFits allBelow statesFit transitionsFit walk chain concatBelow reached member distinct chainsFit successor successorsFit headedRules sheetRules broken isMatrix reflexiveBelow transitiveBelow transitiveAt transitivePair startRules inputRules bit inMatrix coarsestRules
+unfolding numberAt headerOf stateRecordAt transitionRecordAt stateRecord transitionRecord inRange stateFits transitionFits allBelow statesFit transitionsFit walk chain concatBelow reached member listBelow lowest onSomeChain allReached indices occurrences namedTwice noneTwice distinct successor successorsFit headedRules sheetRules broken isMatrix reflexiveBelow transitiveBelow transitiveAt transitivePair startRules inputRules bit inMatrix coarsestRules
 rules-kept = refl
 
 -- the diagonal, which does not contain the simulation that has (0, 2) and (1, 2) too

@@ -9,11 +9,13 @@ use Rattle.lts.specs.Bounded.{anyBelow, allBelow, sumBelow, countBelow, passing
 use Rattle.lts.specs.System.{allStates, anyState, allActions, into, terminationPreorder}
 use Rattle.lts.specs.Refinement.{initial, block, representative, isRepresentative, pending, remove, split, prune, refine, eachAction, stepOf, chosen, step, run, coarsest}
 use Rattle.lts.specs.Union.{disjointUnion, comparison, simulated}
-use Rattle.lts.specs.declared.Refusal.the-variants.{Length, Chain}
-use Rattle.lts.specs.Rule.{Nothing, broken, checked, Reply, given, refused}
+use Rattle.lts.specs.declared.Refusal.{Refusal}
+use Rattle.lts.specs.declared.Refusal.the-variants.{Length, ReachedTwice}
+use Rattle.lts.specs.Refusal.{refusalNumber, refusalRecord}
+use Rattle.lts.specs.Rule.{Nothing, First, broken, checked, Reply, given, refused}
 use Rattle.encoding.proofs.Sheets.{F1, F2}
 use Rattle.encoding.specs.Records.{numberAt, headerOf, stateRecordAt, transitionRecordAt, stateRecord, transitionRecord}
-use Rattle.encoding.specs.Encoding.{inRange, stateFits, statesFit, transitionFits, transitionsFit, walk, chain, reached, member, distinct, chainsFit, successor, successorsFit, headedRules, sheetRules}
+use Rattle.encoding.specs.Encoding.{inRange, stateFits, statesFit, transitionFits, transitionsFit, walk, chain, reached, member, onSomeChain, allReached, indices, occurrences, namedTwice, noneTwice, distinct, successor, successorsFit, headedRules, sheetRules}
 use Rattle.encoding.specs.Denotation.{any, ltsOf}
 use Rattle.inputs.specs.Both.{fits, bothRules}
 use Rattle.comparison.specs.Call.{compareCall, ComparePromise}
@@ -31,8 +33,8 @@ cyclic = 1 ∷ 0 ∷ 1 ∷ 0 ∷ 1 ∷ 0 ∷ 0 ∷ 0 ∷ 1 ∷ 0 ∷ 1 ∷ 0 ∷
 -- the turns are those that are made for the pair of sheets; the first sheet's refusal comes before the second's
 cases : (compareCall F1 F1 ≡ given (1 ∷ 0 ∷ [])) × (compareCall ended F1 ≡ given (0 ∷ 1 ∷ []))
     × (compareCall once F2 ≡ given (1 ∷ 2 ∷ [])) × (compareCall F2 once ≡ given (0 ∷ 2 ∷ []))
-    × (compareCall cyclic [] ≡ refused Chain) × (compareCall [] cyclic ≡ refused Length) × (compareCall F1 cyclic ≡ refused Chain)
-unfolding xor anyBelow allBelow sumBelow countBelow passing concatBelow listBelow lowest restrict allStates anyState allActions into terminationPreorder initial block representative isRepresentative pending remove split prune refine eachAction stepOf chosen step run coarsest disjointUnion comparison simulated broken checked numberAt headerOf stateRecordAt transitionRecordAt stateRecord transitionRecord inRange stateFits statesFit transitionFits transitionsFit walk chain reached member distinct chainsFit successor successorsFit headedRules sheetRules any ltsOf fits bothRules compareCall
+    × (compareCall cyclic [] ≡ refused (ReachedTwice 1)) × (compareCall [] cyclic ≡ refused Length) × (compareCall F1 cyclic ≡ refused (ReachedTwice 1))
+unfolding xor anyBelow allBelow sumBelow countBelow passing concatBelow listBelow lowest restrict allStates anyState allActions into terminationPreorder initial block representative isRepresentative pending remove split prune refine eachAction stepOf chosen step run coarsest disjointUnion comparison simulated broken checked numberAt headerOf stateRecordAt transitionRecordAt stateRecord transitionRecord inRange stateFits statesFit transitionFits transitionsFit walk chain reached member onSomeChain allReached indices occurrences namedTwice noneTwice distinct successor successorsFit headedRules sheetRules any ltsOf fits bothRules compareCall
 cases = (refl, refl, refl, refl, refl, refl, refl)
 
 -- of sheets that keep the rules, the promise allows one reply alone
@@ -44,7 +46,7 @@ one-reply first second e p q = ap (λ (r : Reply). r .values)
 
 -- so it refuses a constant yes, a constant no, and turns that are not made, on sheets where the answer is another
 kept : (broken (bothRules F2 once) ≡ Nothing) × (broken (bothRules once F2) ≡ Nothing)
-unfolding allBelow concatBelow broken numberAt headerOf stateRecordAt transitionRecordAt stateRecord transitionRecord inRange stateFits statesFit transitionFits transitionsFit walk chain reached member distinct chainsFit successor successorsFit headedRules sheetRules fits bothRules
+unfolding allBelow concatBelow broken numberAt headerOf stateRecordAt transitionRecordAt stateRecord transitionRecord inRange stateFits statesFit transitionFits transitionsFit walk chain reached member listBelow lowest onSomeChain allReached indices occurrences namedTwice noneTwice distinct successor successorsFit headedRules sheetRules fits bothRules
 kept = (refl, refl)
 
 not-always-yes : (turns : ℕ) → ComparePromise F2 once (given (1 ∷ turns ∷ [])) → ⊥
@@ -61,3 +63,8 @@ not-other-turns : ComparePromise F2 once (given (0 ∷ 3 ∷ [])) → ⊥
 not-other-turns p =
     let e = one-reply F2 once (kept .0) p (promised F2 once (cases .3)) in
     let z : _≡_ {A = ℕ} 3 2 = cc in omega arith
+
+-- nor does it let the right refusal pass with another record
+not-other-record : (first second : List ℕ) (r : Refusal) (k : ℕ) → broken (bothRules first second) ≡ First r → (k ≡ refusalRecord r → ⊥)
+    → ComparePromise first second (record { refusal = refusalNumber r; recordNumber = k; values = [] }) → ⊥
+not-other-record first second r k e other p = other (ap (λ (x : Reply). x .recordNumber) (p .refuses r e))

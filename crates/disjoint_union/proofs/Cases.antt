@@ -6,15 +6,15 @@ use mathlib.Core.Path.{_≡_, refl, sym, ap, ap₂, _∙_}
 use mathlib.Core.List.{List, [], _∷_, _++_}
 use lib.ListN.{length, getD, take, drop, replicate, take-append-drop}
 use lib.Seq.{length-take-le}
-use Rattle.lts.specs.Bounded.{allBelow, passing, concatBelow}
+use Rattle.lts.specs.Bounded.{allBelow, passing, concatBelow, listBelow, lowest}
 use Rattle.lts.specs.Transitions.{transitionsTo, transitionsBy, transitionsOf, transitionsBelow, transitions}
 use Rattle.lts.specs.Union.{disjointUnion}
-use Rattle.lts.specs.declared.Refusal.the-variants.{Length, Chain, Buffer}
+use Rattle.lts.specs.declared.Refusal.the-variants.{Length, ReachedTwice, Buffer}
 use Rattle.lts.specs.Rule.{Nothing, broken, checked, Reply, given, refused}
 use Rattle.lts.proofs.Rule.{passes}
 use Rattle.encoding.proofs.Sheets.{header, state, by, F1, endless, by-target}
 use Rattle.encoding.specs.Records.{numberAt, headerOf, stateRecordAt, transitionRecordAt, stateRecord, transitionRecord, two, headerBytes, stateBytes, transitionBytes}
-use Rattle.encoding.specs.Encoding.{inRange, stateFits, statesFit, transitionFits, transitionsFit, walk, chain, reached, member, distinct, chainsFit, successor, successorsFit, headedRules, sheetRules}
+use Rattle.encoding.specs.Encoding.{inRange, stateFits, statesFit, transitionFits, transitionsFit, walk, chain, reached, member, onSomeChain, allReached, indices, occurrences, namedTwice, noneTwice, distinct, successor, successorsFit, headedRules, sheetRules}
 use Rattle.encoding.specs.Denotation.{any, ltsOf}
 use Rattle.inputs.specs.Both.{fits, bothRules}
 use Rattle.normal_form.specs.Normal.{firstIndex, nextIndex, normalState, normalTransition, statesBytes, transitionsBytes, normal}
@@ -41,10 +41,10 @@ cases : (joinCall F1 F1 (filled 14) ≡ outcome (14 ∷ []) (header 2 0 0 ++ sta
     × (joinCall F1 by-target (filled 32) ≡ outcome (30 ∷ []) (joined ++ filled 2))
     × (joinCall F1 wide (filled 14) ≡ outcome (14 ∷ []) (header 2 2 0 ++ state 0 ++ state 0))
     × (joinCall F1 F1 (filled 13) ≡ record { reply = refused Buffer; out = filled 13 })
-    × (joinCall F1 endless [] ≡ record { reply = refused Chain; out = [] })
+    × (joinCall F1 endless [] ≡ record { reply = refused (ReachedTwice 1); out = [] })
     × (joinCall [] endless [] ≡ record { reply = refused Length; out = [] })
     × (broken (joinRules F1 by-target (filled 30)) ≡ Nothing) × (broken (joinRules F1 wide (filled 14)) ≡ Nothing)
-unfolding allBelow passing concatBelow transitionsTo transitionsBy transitionsOf transitionsBelow transitions disjointUnion broken checked numberAt headerOf stateRecordAt transitionRecordAt stateRecord transitionRecord two headerBytes stateBytes transitionBytes inRange stateFits statesFit transitionFits transitionsFit walk chain reached member distinct chainsFit successor successorsFit headedRules sheetRules any ltsOf fits bothRules firstIndex nextIndex normalState normalTransition statesBytes transitionsBytes normal joinRules joinCall
+unfolding allBelow passing concatBelow transitionsTo transitionsBy transitionsOf transitionsBelow transitions disjointUnion broken checked numberAt headerOf stateRecordAt transitionRecordAt stateRecord transitionRecord two headerBytes stateBytes transitionBytes inRange stateFits statesFit transitionFits transitionsFit walk chain reached member listBelow lowest onSomeChain allReached indices occurrences namedTwice noneTwice distinct successor successorsFit headedRules sheetRules any ltsOf fits bothRules firstIndex nextIndex normalState normalTransition statesBytes transitionsBytes normal joinRules joinCall
 cases = (refl, refl, refl, refl, refl, refl, refl, refl, refl)
 
 -- of sheets that keep the rules, the promise allows one outcome alone

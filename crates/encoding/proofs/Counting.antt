@@ -1,40 +1,26 @@
 -- A readable encoding's Lts has as many transitions as the encoding has records.
-use Rattle.encoding.proofs.Chains.{chain-all, reached-all, Below, transition-known, successors-below, reached-below}
+use Rattle.encoding.proofs.Chains.{chain-all, reached-all, transition-known, successors-below, reached-below}
 use Prim.Native.Nat.{ℕ, zero, suc, _+_, _*_, _-_, _≤_, _<_, _%_}
 use mathlib.Core.Path.{_≡_, refl, sym, ap, _∙_}
-use mathlib.Core.Bool.{Bool, true, false, not, and-eq-true-iff}
-use mathlib.Core.List.{List, [], _∷_, map}
+use mathlib.Core.Bool.{Bool, false, and-eq-true-iff}
+use mathlib.Core.List.{List, map}
 use native.Mathlib.Omega.{arith}
 use native.Mathlib.Nat.{le-refl, add-comm}
 use native.Mathlib.Numerals.{add-one}
-use borrow.Author.Tests.{ne-eqb, not-true}
 use lib.ListN.{length, length-append, length-map}
 use Rattle.encoding.specs.declared.Header.{Header}
 use Rattle.encoding.specs.Records.{transitionRecord}
-use Rattle.encoding.specs.Encoding.{chain, reached, member, distinct, successor, chainsFit, successorsFit}
-use Rattle.encoding.specs.Checked.{ReadableAs, TransitionKnown}
+use Rattle.encoding.specs.Encoding.{chain, reached, member, distinct, successor, allReached, onSomeChain, successorsFit}
+use Rattle.encoding.specs.Checked.{ReadableAs, TransitionKnown, chainsFit}
 use Rattle.encoding.specs.Denotation.{ltsOf}
 use Rattle.lts.specs.Bounded.{passing, concatBelow}
 use Rattle.lts.specs.Transitions.{transitionsBy, transitionsOf, transitionsBelow}
 use Rattle.lts.proofs.Count.{passing-shorter}
 use Rattle.lts.proofs.Below.{all-at}
-use Rattle.lts.proofs.Lists.{Every, every-map, passing-zero, passing-all, passing-add, passing-or, passing-same}
+use Rattle.lts.proofs.Lists.{Every, every-map, passing-zero, passing-all, passing-add, passing-same}
 use Rattle.lts.proofs.Transitions.{to-length, by-none, by-more, by-all}
+use Rattle.encoding.proofs.Members.{distinct-count, member-keeps}
 use Rattle.encoding.proofs.Denotation.{lts-states, lts-actions, transition-member}
-
--- ## A list with no number twice has as many members as its length
-distinct-count : (b : ℕ) (l : List ℕ) → distinct l ≡ true → Below b l → length (passing b (λ x. member x l)) ≡ length l
-unfolding distinct member
-distinct-count b [] d k = passing-zero b _ (λ i u. refl)
-distinct-count b (y ∷ l) d k =
-    let p = and-eq-true-iff (not (member y l)) (distinct l) .0 d in
-    passing-or b y (λ x. member x l) (k .0) (not-true _ (p .0)) ∙ ap suc (distinct-count b l (p .1) (k .1))
-
--- ## What every member of a list keeps
-pub member-keeps : (P : ℕ → Type 0) (x : ℕ) (l : List ℕ) → Every P l → (P x → ⊥) → member x l ≡ false
-unfolding member
-member-keeps P x [] a n = refl
-member-keeps P x (y ∷ l) a n = rw (ne-eqb x y (λ e. n (rw e (a .0))), member-keeps P x l (a .1) n)
 
 -- ## The actions and targets on a chain
 -- an action from 1 to m and a target below n, as one number
@@ -107,7 +93,7 @@ module _ (s : List ℕ) (h : Header) (g : ReadableAs s h) where
 
   -- the law: as many transitions as records
   pub all-count : length (transitionsBelow (ltsOf s) (h .states)) ≡ h .transitions
-  unfolding chainsFit
+  unfolding chainsFit allReached onSomeChain
   all-count =
       let b = g .recorded .sized .bounds in
       let r = reached s h (h .states) in

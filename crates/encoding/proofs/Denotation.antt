@@ -6,7 +6,7 @@ use mathlib.Core.List.{List, [], _∷_, map}
 use native.Mathlib.Omega.{arith}
 use native.Mathlib.Decide.{ℕ-discrete}
 use borrow.Author.Tests.{eq-eqb, ne-eqb, eqb-true, lt-ltb, le-ltb, ltb-true, leb-true}
-use lib.Dec.{T, ltb, eqb}
+use lib.Dec.{ltb, eqb}
 use Rattle.lts.specs.System.{WellFormed}
 use Rattle.encoding.specs.declared.Header.{Header}
 use Rattle.encoding.specs.Records.{headerOf, stateRecord, transitionRecord}

@@ -1,5 +1,8 @@
-pub mod Reader
 pub mod Chains
+pub mod Members
+pub mod OnChain
+pub mod Naming
+pub mod Reader
 pub mod Denotation
 pub mod Counting
 pub mod Laws

@@ -1,21 +1,21 @@
 -- What reading answers by the rules, and what its answer says of them.
-use Prim.Native.Nat.{ℕ, _≤_, _<_}
+use Prim.Native.Nat.{ℕ}
 use mathlib.Core.Path.{_≡_, refl, sym, ap, _∙_}
 use mathlib.Core.Logic.{⊎-elim}
-use mathlib.Core.Bool.{Bool, true, false, not, and-eq-true-iff}
+use mathlib.Core.Bool.{true, and-eq-true-iff}
 use mathlib.Core.List.{List}
 use native.Mathlib.Omega.{arith}
-use borrow.Author.Tests.{eq-eqb, le-leb, lt-leb, not-true, not-false, eqb-true, leb-true}
+use borrow.Author.Tests.{eq-eqb, le-leb, eqb-true, leb-true}
 use lib.ListN.{length, drop}
-use lib.Dec.{eqb}
 use Rattle.encoding.specs.declared.Header.{Header}
 use Rattle.lts.specs.declared.Refusal.{Refusal}
 use Rattle.lts.specs.Rule.{Nothing, First, broken}
 use Rattle.lts.proofs.Rule.{pass, done, kept, refuses, passes, finding}
 use Rattle.encoding.specs.declared.Reading.the-variants.{Readable, Refused}
-use Rattle.encoding.specs.Records.{headerOf, encodingLength}
-use Rattle.encoding.specs.Encoding.{inRange, statesFit, transitionsFit, chainsFit, successorsFit, headedRules, sheetRules, readEncoding}
-use Rattle.encoding.specs.Checked.{ReadableAs, Bounds}
+use Rattle.encoding.specs.Records.{headerOf}
+use Rattle.encoding.specs.Encoding.{inRange, reached, allReached, noneTwice, distinct, headedRules, sheetRules, readEncoding}
+use Rattle.encoding.specs.Checked.{Bounds, Recorded, ReadableAs, chainsFit}
+use Rattle.encoding.proofs.Naming.{fit-none-twice, none-twice-distinct}
 
 -- rule 2, as facts on the numbers
 pub in-range : (h : Header) → inRange h ≡ true → Bounds h
@@ -49,6 +49,15 @@ pub sheet-kept : (s : List ℕ) {h : Header} → readEncoding s ≡ Readable h �
 sheet-kept s {h} e =
     ⊎-elim (λ p. let f = sheet-passed s refl p in (p, cc)) (λ q. let f = sheet-refused s (q .1) in (cc, cc)) (finding (sheetRules s))
 
+-- rules 5 and 16 together
+pub chains-kept : (s : List ℕ) (h : Header) → Recorded s h → allReached s h ≡ true → noneTwice s h ≡ true → chainsFit s h ≡ true
+unfolding chainsFit
+chains-kept s h g a b = rw (none-twice-distinct s h g b, a)
+
+pub kept-chains : (s : List ℕ) (h : Header) → Recorded s h → chainsFit s h ≡ true → (allReached s h ≡ true) × (noneTwice s h ≡ true)
+unfolding chainsFit
+kept-chains s h g e = (and-eq-true-iff (distinct (reached s h (h .states))) (allReached s h) .0 e .1, fit-none-twice s h g e)
+
 pub kept-readable : (s : List ℕ) → broken (sheetRules s) ≡ Nothing → ReadableAs s (headerOf s)
 unfolding sheetRules headedRules
 kept-readable s e =
@@ -59,13 +68,9 @@ kept-readable s e =
     let e₅ = kept _ _ _ (e₄ .1) in
     let e₆ = kept _ _ _ (e₅ .1) in
     let e₇ = kept _ _ _ (e₆ .1) in
-    record {
-      recorded =
-          record { sized = record { bounds = in-range _ (e₂ .0); long = eqb-true _ _ (e₃ .0) }; states = e₄ .0; transitions = e₅ .0 };
-      header = refl;
-      chains = e₆ .0;
-      successors = e₇ .0;
-    }
+    let e₈ = kept _ _ _ (e₇ .1) in
+    let recorded : Recorded s (headerOf s) = record { sized = record { bounds = in-range _ (e₂ .0); long = eqb-true _ _ (e₃ .0) }; states = e₄ .0; transitions = e₅ .0 } in
+    record { recorded = recorded; header = refl; chains = chains-kept s (headerOf s) recorded (e₆ .0) (e₇ .0); successors = e₈ .0 }
 
 pub readable-of : {s : List ℕ} {h : Header} → readEncoding s ≡ Readable h → ReadableAs s h
 readable-of {s} e = let k = sheet-kept s e in rw (k .1) (kept-readable s (k .0))
@@ -85,8 +90,10 @@ readable-kept {s} {h} g =
     let e₃ = pass _ _ _ e₂ (sym (eq-eqb _ _ z)) refl in
     let e₄ = pass _ _ _ e₃ (sym (g .recorded .states)) refl in
     let e₅ = pass _ _ _ e₄ (sym (g .recorded .transitions)) refl in
-    let e₆ = pass _ _ _ e₅ (sym (g .chains)) refl in
-    done (pass _ _ _ e₆ (sym (g .successors)) refl)
+    let c = kept-chains s h (g .recorded) (g .chains) in
+    let e₆ = pass _ _ _ e₅ (sym (c .0)) refl in
+    let e₇ = pass _ _ _ e₆ (sym (c .1)) refl in
+    done (pass _ _ _ e₇ (sym (g .successors)) refl)
 
 pub reads : (s : List ℕ) (h : Header) → ReadableAs s h → readEncoding s ≡ Readable h
 reads s h g = sym (sheet-passed s (g .header) (readable-kept g))

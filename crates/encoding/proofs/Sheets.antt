@@ -51,6 +51,30 @@ endless = header 1 1 1 ++ state 1 ++ transition 0 1
 abbrev pub lone : List ℕ
 lone = header 1 1 1 ++ state 0 ++ transition 0 1
 
+-- two records that name each other, and that no state names
+abbrev pub cycle : List ℕ
+cycle = header 1 1 2 ++ state 0 ++ transition 0 2 ++ transition 0 1
+
+-- records 1 and 3 on no chain
+abbrev pub gaps : List ℕ
+gaps = header 1 1 3 ++ state 2 ++ transition 0 0 ++ transition 0 0 ++ transition 0 0
+
+-- two states name record 1, and record 2 is on no chain
+abbrev pub both : List ℕ
+both = header 2 1 2 ++ state 1 ++ state 1 ++ transition 0 0 ++ transition 1 0
+
+-- two states name record 2, which goes on to record 1
+abbrev pub shared : List ℕ
+shared = header 2 1 2 ++ state 2 ++ state 2 ++ transition 0 0 ++ transition 1 1
+
+-- record 1 goes on to record 2, which a state names
+abbrev pub joining : List ℕ
+joining = header 2 1 2 ++ state 1 ++ state 2 ++ transition 0 2 ++ transition 1 0
+
+-- two states name record 1, which goes on to record 2, which names itself
+abbrev pub doubled : List ℕ
+doubled = header 2 1 2 ++ state 1 ++ state 1 ++ transition 0 2 ++ transition 1 2
+
 -- one Lts, three times: in normal form; with its records ordered by target, then action; with its chain turned
 abbrev pub by-action : List ℕ
 by-action = header 2 2 2 ++ state 1 ++ state 0 ++ by 1 1 2 ++ by 2 0 0

@@ -2,13 +2,13 @@
 -- reader's answer by the law `readable-of` (proofs/Reader.antt).
 use Prim.Native.Nat.{ℕ, _≤_, _<_}
 use mathlib.Core.Path.{_≡_}
-use mathlib.Core.Bool.{true}
+use mathlib.Core.Bool.{Bool, true, _&&_}
 use mathlib.Core.List.{List}
 use lib.ListN.{length}
 use Rattle.encoding.specs.declared.Header.{Header}
 use Rattle.encoding.specs.declared.TransitionRecord.{TransitionRecord}
 use Rattle.encoding.specs.Records.{headerOf, encodingLength, stateRecord, transitionRecord}
-use Rattle.encoding.specs.Encoding.{statesFit, transitionsFit, chainsFit, successorsFit}
+use Rattle.encoding.specs.Encoding.{statesFit, transitionsFit, reached, allReached, distinct, successorsFit}
 
 -- rule 2 holds
 pub record Bounds (h : Header) : Type 0 where
@@ -40,6 +40,10 @@ pub record TransitionKnown (s : List ℕ) (h : Header) (j : ℕ) (r : Transition
   pub action : r .action ≤ h .actions
   pub target : r .target < h .states
   pub next : r .next ≤ h .transitions
+
+-- rules 5 and 16 together: the chains hold no record twice, and hold each record
+unfoldable pub chainsFit : List ℕ → Header → Bool
+chainsFit s h = distinct (reached s h (h .states)) && allReached s h
 
 -- the encoding is readable, and h is its header
 pub record ReadableAs (s : List ℕ) (h : Header) : Type 0 where

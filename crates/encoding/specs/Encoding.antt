@@ -1,12 +1,13 @@
--- The rules that make an encoding readable, and what reading it answers (document 01, "The sheet" and the table of refusals).
+-- The rules that make an encoding readable, and what reading it answers (document 01, "The sheet" and the table of refusals;
+-- document 02, L1).
 use Prim.Native.Nat.{ℕ, zero, suc, _+_, _*_}
-use mathlib.Core.Bool.{Bool, true, false, not, _&&_, _||_}
-use mathlib.Core.List.{List, [], _∷_, map}
+use mathlib.Core.Bool.{Bool, true, false, cond, not, _&&_, _||_}
+use mathlib.Core.List.{List, [], _∷_, _++_, map}
 use lib.ListN.{length}
 use lib.Dec.{ltb, leb, eqb}
-use Rattle.lts.specs.Bounded.{allBelow, concatBelow}
+use Rattle.lts.specs.Bounded.{allBelow, concatBelow, listBelow, lowest}
 use Rattle.lts.specs.Rule.{Rule, _otherwise_, checked}
-use Rattle.lts.specs.declared.Refusal.the-variants.{Length, Range, StateRecord as BadState, TransitionRecord as BadTransition, Chain, Repeated}
+use Rattle.lts.specs.declared.Refusal.the-variants.{Length, Range, StateRecord as BadState, TransitionRecord as BadTransition, Unreached, ReachedTwice, Repeated}
 use Rattle.encoding.specs.declared.Header.{Header}
 use Rattle.encoding.specs.declared.StateRecord.{StateRecord}
 use Rattle.encoding.specs.declared.TransitionRecord.{TransitionRecord}
@@ -51,14 +52,37 @@ unfoldable pub member : ℕ → List ℕ → Bool
 member x [] = false
 member x (y ∷ l) = eqb x y || member x l
 
+-- rule 5: each record is on some chain
+unfoldable pub onSomeChain : List ℕ → Header → ℕ → Bool
+onSomeChain s h j = member j (reached s h (h .states))
+
+unfoldable pub allReached : List ℕ → Header → Bool
+allReached s h = allBelow (h .transitions) (λ i. onSomeChain s h (i + 1))
+
+-- the first and next indices, one after the other
+unfoldable pub indices : List ℕ → Header → List ℕ
+indices s h = listBelow (h .states) (λ p. stateRecord s h p .first) ++ listBelow (h .transitions) (λ i. transitionRecord s h (i + 1) .next)
+
+-- how often a number stands in the list
+unfoldable pub occurrences : ℕ → List ℕ → ℕ
+occurrences x [] = 0
+occurrences x (y ∷ l) = cond (eqb x y) 1 0 + occurrences x l
+
+-- rule 16: no record is reached twice, that is, named by two first or next indices
+unfoldable pub namedTwice : List ℕ → Header → ℕ → Bool
+namedTwice s h j = leb 2 (occurrences j (indices s h))
+
+unfoldable pub noneTwice : List ℕ → Header → Bool
+noneTwice s h = allBelow (h .transitions) (λ i. not (namedTwice s h (i + 1)))
+
+-- the number, from 1, of the lowest record that passes
+abbrev pub lowestRecord : Header → (ℕ → Bool) → ℕ
+lowestRecord h f = lowest (h .transitions) (λ i. f (i + 1)) + 1
+
 -- whether no number stands twice in the list
 unfoldable pub distinct : List ℕ → Bool
 distinct [] = true
 distinct (x ∷ l) = not (member x l) && distinct l
-
--- rule 5: no record is reached twice, and none is on no chain
-unfoldable pub chainsFit : List ℕ → Header → Bool
-chainsFit s h = distinct (reached s h (h .states)) && allBelow (h .transitions) (λ i. member (i + 1) (reached s h (h .states)))
 
 -- action and target of record j as one number (targets are below 256)
 unfoldable pub successor : List ℕ → Header → ℕ → ℕ
@@ -76,7 +100,8 @@ headedRules s h =
     ∷ eqb (length s) (encodingLength h) otherwise Length
     ∷ statesFit s h otherwise BadState
     ∷ transitionsFit s h otherwise BadTransition
-    ∷ chainsFit s h otherwise Chain
+    ∷ allReached s h otherwise Unreached (lowestRecord h (λ j. not (onSomeChain s h j)))
+    ∷ noneTwice s h otherwise ReachedTwice (lowestRecord h (namedTwice s h))
     ∷ successorsFit s h otherwise Repeated
     ∷ []
 

@@ -2,5 +2,4 @@ pub mod Records
 pub mod Encoding
 pub mod Denotation
 pub mod Checked
-pub mod Marks
 pub mod Read

@@ -1,21 +1,13 @@
-// Encodings of labelled transition systems (document 01, "The sheet"): the records and the reader.
+// Encodings of labelled transition systems (document 01, "The sheet"): the records. Crate `reader` reads a whole encoding.
 ghost use Prim.Native.Nat.{_+_, _*_, _-_, _<_, _≤_};
 ghost use mathlib.Core.Path.{_≡_};
-ghost use mathlib.Core.Bool.{true};
-ghost use mathlib.Core.List.{map};
-ghost use lib.Dec.{eqb};
 ghost use lib.ListN.{length, getD};
 ghost use lib.Seq.{sets};
-ghost use Rattle.lts.specs.Bounded.{allBelow};
 ghost use Rattle.encoding.specs.Records.{numberAt, two, headerOf, headerBytes, stateRecordAt, stateBytes};
 ghost use Rattle.encoding.specs.Records.{transitionRecordAt, transitionBytes, stateAt, transitionAt, encodingLength};
 ghost use Rattle.encoding.specs.Records.{stateRecord, transitionRecord};
-ghost use Rattle.encoding.specs.Encoding.{inRange, stateFits, transitionFits, statesFit, transitionsFit};
-ghost use Rattle.encoding.specs.Encoding.{chain, reached, successor, chainsFit, successorsFit, readEncoding};
-ghost use Rattle.lts.specs.Transitions.{transitionsTo, transitionsOf};
-ghost use Rattle.encoding.specs.Read.{readingReply, ReadPromise};
+ghost use Rattle.encoding.specs.Encoding.{inRange, stateFits, transitionFits};
 ghost use Rattle.encoding.specs.Checked.{Bounds, Sized, Recorded, FirstKnown, TransitionKnown};
-ghost use Rattle.encoding.specs.Marks.{fresh, marked};
 
 pub struct Header {
     pub states: usize,
@@ -74,7 +66,7 @@ impl Header {
         }
     }
 
-    fn read(s: &[u8]) -> Header
+    pub fn read(s: &[u8]) -> Header
         requires { ⌜ 6 ≤ length (now s) ⌝ }
         ensures { λ r. ⌜ r ≡ headerOf (now (s .entry)) ⌝ }
     {
@@ -91,7 +83,7 @@ impl Header {
     }
 
     // Whether each count is in its range.
-    fn in_range(self) -> bool
+    pub fn in_range(self) -> bool
         ensures { λ r. ⌜ r ≡ inRange self ⌝ }
     {
         (1 <= self.states)
@@ -155,7 +147,7 @@ impl StateRecord {
         put_two(out, at + 2, self.first);
     }
 
-    fn fits(self, h: Header) -> bool
+    pub fn fits(self, h: Header) -> bool
         ensures { λ r. ⌜ r ≡ stateFits h self ⌝ }
     {
         (self.mark <= 1) & (self.spare == 0) & (self.first <= h.transitions)
@@ -193,7 +185,7 @@ impl TransitionRecord {
         put_two(out, at + 4, self.next);
     }
 
-    fn fits(self, h: Header) -> bool
+    pub fn fits(self, h: Header) -> bool
         ensures { λ r. ⌜ r ≡ transitionFits h self ⌝ }
     {
         let a = self.action as usize;
@@ -214,59 +206,11 @@ pub fn state_record(s: &[u8], h: Header, p: usize) -> StateRecord
 }
 
 // Transition record j, from 1.
-fn transition_record(s: &[u8], h: Header, j: usize) -> TransitionRecord
+pub fn transition_record(s: &[u8], h: Header, j: usize) -> TransitionRecord
     requires { ⌜ (Sized (now s) h) × (1 ≤ j) × (j ≤ h .transitions) ⌝ }
     ensures { λ r. ⌜ r ≡ transitionRecord (now (s .entry)) h j ⌝ }
 {
     TransitionRecord::read(s, h.transition_at(j))
-}
-
-// Rule 3, of state p.
-fn state_fits(s: &[u8], h: Header, p: usize) -> bool
-    requires { ⌜ (Sized (now s) h) × (p < h .states) ⌝ }
-    ensures { λ r. ⌜ r ≡ stateFits h (stateRecord (now (s .entry)) h p) ⌝ }
-{
-    state_record(s, h, p).fits(h)
-}
-
-// Rule 4, of record j.
-fn transition_fits(s: &[u8], h: Header, j: usize) -> bool
-    requires { ⌜ (Sized (now s) h) × (1 ≤ j) × (j ≤ h .transitions) ⌝ }
-    ensures { λ r. ⌜ r ≡ transitionFits h (transitionRecord (now (s .entry)) h j) ⌝ }
-{
-    transition_record(s, h, j).fits(h)
-}
-
-// Rule 3, over all state records.
-fn states_fit(s: &[u8], h: Header) -> bool
-    requires { ⌜ Sized (now s) h ⌝ }
-    ensures { λ r. ⌜ r ≡ statesFit (now (s .entry)) h ⌝ }
-{
-    let n = h.states;
-    let mut p = 0;
-    while p < n {
-        if !state_fits(s, h, p) {
-            return false;
-        }
-        p += 1;
-    }
-    true
-}
-
-// Rule 4, over all transition records.
-fn transitions_fit(s: &[u8], h: Header) -> bool
-    requires { ⌜ Sized (now s) h ⌝ }
-    ensures { λ r. ⌜ r ≡ transitionsFit (now (s .entry)) h ⌝ }
-{
-    let k = h.transitions;
-    let mut i = 0;
-    while i < k {
-        if !transition_fits(s, h, i + 1) {
-            return false;
-        }
-        i += 1;
-    }
-    true
 }
 
 // State p's first index, after rule 3.
@@ -283,145 +227,4 @@ pub fn known_transition(s: &[u8], h: Header, j: usize) -> TransitionRecord
     ensures { λ r. ⌜ TransitionKnown (now (s .entry)) h j r ⌝ }
 {
     transition_record(s, h, j)
-}
-
-// Marks the records of state p's chain; false where one is marked already. The chain is followed for at most one record
-// more than there are.
-fn mark_chain(s: &[u8], h: Header, p: usize, seen: &mut [u8; 1025]) -> bool
-    requires { ⌜ (Recorded (now s) h) × (p < h .states) ⌝ }
-    ensures { λ r. ⌜ r ≡ fresh 1 (now (seen .entry)) (chain (now (s .entry)) h p) ⌝ }
-    ensures { λ r. ⌜ (r ≡ true → now (seen .exit) ≡ marked 1 (now (seen .entry)) (chain (now (s .entry)) h p)) ⌝ }
-{
-    let mut j = first_of(s, h, p);
-    let mut left = h.transitions + 1;
-    while left > 0 {
-        if j == 0 {
-            return true;
-        }
-        if seen[j] == 1 {
-            return false;
-        }
-        seen[j] = 1;
-        j = known_transition(s, h, j).next;
-        left -= 1;
-    }
-    true
-}
-
-// Marks the records of all chains; false where one is reached twice.
-fn mark_chains(s: &[u8], h: Header, seen: &mut [u8; 1025]) -> bool
-    requires { ⌜ Recorded (now s) h ⌝ }
-    ensures { λ r. ⌜ r ≡ fresh 1 (now (seen .entry)) (reached (now (s .entry)) h (h .states)) ⌝ }
-    ensures { λ r. ⌜ (r ≡ true → now (seen .exit) ≡ marked 1 (now (seen .entry)) (reached (now (s .entry)) h (h .states))) ⌝ }
-{
-    let n = h.states;
-    let mut p = 0;
-    while p < n {
-        if !mark_chain(s, h, p, seen) {
-            return false;
-        }
-        p += 1;
-    }
-    true
-}
-
-// Whether each of the records 1 to k is marked.
-fn all_marked(k: usize, seen: &[u8; 1025]) -> bool
-    requires { ⌜ k ≤ 1024 ⌝ }
-    ensures { λ r. ⌜ r ≡ allBelow k (λ i. eqb (getD (now (seen .entry)) (i + 1) 0) 1) ⌝ }
-{
-    let mut i = 0;
-    while i < k {
-        if seen[i + 1] != 1 {
-            return false;
-        }
-        i += 1;
-    }
-    true
-}
-
-// Rule 5.
-fn chains_fit(s: &[u8], h: Header) -> bool
-    requires { ⌜ Recorded (now s) h ⌝ }
-    ensures { λ r. ⌜ r ≡ chainsFit (now (s .entry)) h ⌝ }
-{
-    let mut seen = [0u8; 1025];
-    if !mark_chains(s, h, &mut seen) {
-        return false;
-    }
-    let k = h.transitions;
-    all_marked(k, &seen)
-}
-
-// Stamps the actions and targets of state p's chain with p + 1; false where one is stamped so already.
-fn stamp_chain(s: &[u8], h: Header, p: usize, stamps: &mut [u16; 16640]) -> bool
-    requires { ⌜ (Recorded (now s) h) × (p < h .states) ⌝ }
-    ensures { λ r. ⌜ r ≡ fresh (p + 1) (now (stamps .entry)) (map (successor (now (s .entry)) h) (chain (now (s .entry)) h p)) ⌝ }
-    ensures { λ r. ⌜ (let l = map (successor (now (s .entry)) h) (chain (now (s .entry)) h p) in
-        r ≡ true → now (stamps .exit) ≡ marked (p + 1) (now (stamps .entry)) l) ⌝ }
-{
-    let stamp = (p + 1) as u16;
-    let mut j = first_of(s, h, p);
-    let mut left = h.transitions + 1;
-    while left > 0 {
-        if j == 0 {
-            return true;
-        }
-        let r = known_transition(s, h, j);
-        let at = 256 * (r.action as usize) + r.target;
-        if stamps[at] == stamp {
-            return false;
-        }
-        stamps[at] = stamp;
-        j = r.next;
-        left -= 1;
-    }
-    true
-}
-
-// Rule 6.
-fn successors_fit(s: &[u8], h: Header) -> bool
-    requires { ⌜ Recorded (now s) h ⌝ }
-    ensures { λ r. ⌜ r ≡ successorsFit (now (s .entry)) h ⌝ }
-{
-    let mut stamps = [0u16; 16640];
-    let n = h.states;
-    let mut p = 0;
-    while p < n {
-        if !stamp_chain(s, h, p, &mut stamps) {
-            return false;
-        }
-        p += 1;
-    }
-    true
-}
-
-// Reads an encoding: its header, or the first rule that it breaks.
-pub fn read_encoding(s: &[u8]) -> Reading
-    ensures { λ r. ⌜ r ≡ readEncoding (now (s .entry)) ⌝ }
-    ensures { λ r. ⌜ ReadPromise (now (s .entry)) (readingReply r) ⌝ }
-{
-    if s.len() < Header::BYTES {
-        return Reading::Refused(lts::Refusal::Length);
-    }
-    let h = Header::read(s);
-    if !h.in_range() {
-        return Reading::Refused(lts::Refusal::Range);
-    }
-    if s.len() != h.length() {
-        return Reading::Refused(lts::Refusal::Length);
-    }
-    if !states_fit(s, h) {
-        return Reading::Refused(lts::Refusal::StateRecord);
-    }
-    if !transitions_fit(s, h) {
-        return Reading::Refused(lts::Refusal::TransitionRecord);
-    }
-    if !chains_fit(s, h) {
-        return Reading::Refused(lts::Refusal::Chain);
-    }
-    if !successors_fit(s, h) {
-        return Reading::Refused(lts::Refusal::Repeated);
-    }
-    Reading::Readable(h)
 }

@@ -25,7 +25,7 @@ fn with_start(h: encoding::Header, start: &[u64]) -> encoding::Reading
 pub fn read_inputs(s: &[u8], start: &[u64]) -> encoding::Reading
     ensures { λ r. ⌜ r ≡ readInputs (now (s .entry)) (now (start .entry)) ⌝ }
 {
-    let reading = encoding::read_encoding(s);
+    let reading = reader::read_encoding(s);
     match reading {
         encoding::Reading::Refused(r) => encoding::Reading::Refused(r),
         encoding::Reading::Readable(h) => with_start(h, start),
@@ -60,7 +60,7 @@ fn read_second(h: encoding::Header, second: &[u8]) -> Both
     requires { ⌜ Bounds h ⌝ }
     ensures { λ r. ⌜ r ≡ readSecond h (now (second .entry)) ⌝ }
 {
-    let reading = encoding::read_encoding(second);
+    let reading = reader::read_encoding(second);
     match reading {
         encoding::Reading::Refused(r) => Both::Refused(r),
         encoding::Reading::Readable(g) => {
@@ -76,7 +76,7 @@ fn read_second(h: encoding::Header, second: &[u8]) -> Both
 pub fn read_both(first: &[u8], second: &[u8]) -> Both
     ensures { λ r. ⌜ r ≡ readBoth (now (first .entry)) (now (second .entry)) ⌝ }
 {
-    let reading = encoding::read_encoding(first);
+    let reading = reader::read_encoding(first);
     match reading {
         encoding::Reading::Refused(r) => Both::Refused(r),
         encoding::Reading::Readable(h) => read_second(h, second),

@@ -10,7 +10,7 @@ use Rattle.lts.specs.Refinement.{eachAction, stepOf, chosen, step, run, coarses
 use Rattle.lts.specs.Rule.{broken, checked}
 use Rattle.encoding.specs.Records.{numberAt, headerOf, stateRecordAt, transitionRecordAt, stateRecord, transitionRecord}
 use Rattle.encoding.specs.Encoding.{inRange, stateFits, statesFit, transitionFits, transitionsFit}
-use Rattle.encoding.specs.Encoding.{walk, chain, reached, member, distinct, chainsFit, successor, successorsFit, headedRules, sheetRules}
+use Rattle.encoding.specs.Encoding.{walk, chain, reached, member, onSomeChain, allReached, indices, occurrences, namedTwice, noneTwice, distinct, successor, successorsFit, headedRules, sheetRules}
 use Rattle.encoding.specs.Denotation.{any, ltsOf}
 use Rattle.encoding.proofs.Sheets.{F3, F8}
 use Rattle.report.specs.Decimal.{decimalIn, decimal}
@@ -29,6 +29,6 @@ cases : (flowText F3 ≡ text) × (flowText F8 ≡ 114 ∷ 101 ∷ 102 ∷ 117 �
 unfolding text xor anyBelow allBelow sumBelow countBelow passing concatBelow listBelow lowest restrict allStates anyState allActions into
     terminationPreorder initial block representative isRepresentative pending remove split prune refine eachAction stepOf chosen step run coarsest
     pairCount blockCount numberAt headerOf stateRecordAt transitionRecordAt stateRecord transitionRecord inRange stateFits statesFit transitionFits
-    transitionsFit walk chain reached member distinct chainsFit successor successorsFit headedRules sheetRules broken checked any ltsOf decimalIn decimal headLine
+    transitionsFit walk chain reached member onSomeChain allReached indices occurrences namedTwice noneTwice distinct successor successorsFit headedRules sheetRules broken checked any ltsOf decimalIn decimal headLine
     relatedText stateLine refusedLine systemText flowText
 cases = (refl, refl)

@@ -107,7 +107,7 @@ pub fn put_flow(s: &[u8], out: &mut Text) -> usize
     ensures { λ size. ⌜ now (out .exit) ≡ flowText (now (s .entry)) ++ drop size (now (out .entry)) ⌝ }
     ensures { λ size. ⌜ Part size (now (out .exit)) (flowText (now (s .entry))) ⌝ }
 {
-    let reading = encoding::read_encoding(s);
+    let reading = reader::read_encoding(s);
     match reading {
         encoding::Reading::Refused(r) => put_refusal(out, r),
         encoding::Reading::Readable(h) => put_readable(s, h, out),

@@ -13,7 +13,7 @@ use borrow.Author.Tests.{eq-eqb, ne-eqb}
 use lib.ListN.{length, drop-of-length-le, getD, set, drop}
 use lib.Seq.{ext-getD}
 use Rattle.lts.specs.Bounded.{anyBelow, allBelow, sumBelow, listBelow, lowest}
-use Rattle.lts.proofs.Bounded.{any-iff}
+use Rattle.lts.proofs.Bounded.{any-iff, below-suc}
 
 pub lt-or-ge : (a b : ℕ) → (a < b) ⊎ (b ≤ a)
 lt-or-ge a zero = inr zero-le
@@ -157,6 +157,19 @@ unfolding sumBelow
 sum-zero zero f e = refl
 sum-zero (suc k) f e = omega (arith, sum-zero k f (λ i h. e i (omega arith)), e k (le-refl (suc k)))
 
+pub sum-plus : (k : ℕ) (f g : ℕ → ℕ) → sumBelow k (λ i. f i + g i) ≡ sumBelow k f + sumBelow k g
+unfolding sumBelow
+sum-plus zero f g = omega arith
+sum-plus (suc k) f g = omega (arith, sum-plus k f g)
+
+-- where no other term is above 0
+pub sum-only : (k y : ℕ) (f : ℕ → ℕ) → y < k → ((i : ℕ) → (i ≡ y → ⊥) → f i ≡ 0) → sumBelow k f ≡ f y
+unfolding sumBelow
+sum-only zero y f l none = absurd (not-suc-le-zero l)
+sum-only (suc k) y f l none =
+    ⊎-elim (λ (m : y < k). omega (arith, sum-only k y f m none, none k (λ e. omega (arith, e, m))))
+    (λ (m : y ≡ k). rw m (omega (arith, sum-zero k f (λ i u. none i (λ e. omega (arith, e, u, m)))))) (below-suc l)
+
 -- from n on every term is 0
 pub sum-shorter : (n m : ℕ) (f : ℕ → ℕ) → n ≤ m → ((i : ℕ) → n ≤ i → i < m → f i ≡ 0) → sumBelow m f ≡ sumBelow n f
 sum-shorter n m f l e =
@@ -212,6 +225,11 @@ lowest-is k f r h here before =
 pub lowest-none : (k : ℕ) (f : ℕ → Bool) → ((i : ℕ) → i < k → f i ≡ false) → k ≡ lowest k f
 lowest-none k f none =
     ⊎-elim (λ e. sym e) (λ (l : lowest k f < k). absurd (clash (lowest-at k f l) (none (lowest k f) l))) (eq-or-lt-of-le (lowest-le k f))
+
+-- where not all fail, one below k passes
+pub lowest-some : (k : ℕ) (f : ℕ → Bool) → allBelow k (λ i. not (f i)) ≡ false → lowest k f < k
+lowest-some k f e = ⊎-elim (λ l. l)
+    (λ (m : k ≤ lowest k f). absurd (clash (all-of k _ (λ i l. ap not (lowest-before k f i (omega (arith, l, m))))) e)) (lt-or-ge (lowest k f) k)
 
 pub lowest-cong : (k : ℕ) (f g : ℕ → Bool) → ((i : ℕ) → f i ≡ g i) → lowest k f ≡ lowest k g
 unfolding lowest

@@ -1,7 +1,7 @@
 -- The laws of rules: a sequence of checks, of which each refuses or goes on; rules of several parts; and what an answer says of the rules.
 use Prim.Native.Nat.{ℕ, _≤_, _<_}
 use native.Mathlib.Omega.{arith}
-use mathlib.Core.Path.{_≡_, refl, sym, _∙_, ap}
+use mathlib.Core.Path.{_≡_, refl, sym, _∙_, ap, ap₂}
 use mathlib.Core.Logic.{_⊎_, inl, inr, ⊎-elim, _↔_}
 use mathlib.Core.Bool.{Bool, true, false, cond, not}
 use mathlib.Core.List.{List, [], _∷_, _++_}
@@ -9,8 +9,8 @@ use lib.Dec.{T}
 use lib.ListN.{getD, drop}
 use borrow.Author.Tests.{not-true, not-false}
 use Rattle.lts.specs.declared.Refusal.{Refusal}
-use Rattle.lts.specs.declared.Refusal.the-variants.{Length, Range, StateRecord, TransitionRecord, Chain, Repeated, TooLarge, Grid, NotReflexive, NotTransitive, NoState, TooManyRounds, StillRelated, Unsound, Buffer}
-use Rattle.lts.specs.Refusal.{refusalNumber}
+use Rattle.lts.specs.declared.Refusal.the-variants.{Length, Range, StateRecord, TransitionRecord, Unreached, ReachedTwice, Repeated, TooLarge, Grid, NotReflexive, NotTransitive, NoState, TooManyRounds, StillRelated, Unsound, Buffer}
+use Rattle.lts.specs.Refusal.{refusalNumber, refusalRecord}
 use Rattle.lts.specs.declared.Checked.{Checked}
 use Rattle.lts.specs.declared.Checked.the-variants.{Passed, Refused}
 use Rattle.lts.specs.Rule.{Rule, _otherwise_, Finding, Nothing, First, broken, checked, Reply, refused, given, check, Decides}
@@ -59,6 +59,22 @@ both-kept [] ys e = (refl, e)
 both-kept (true otherwise r ∷ xs) ys e = both-kept xs ys e
 both-kept (false otherwise r ∷ xs) ys e = (e, cc)
 
+-- ## What is known where a rule is the first to be broken: it is this one, or this one is kept
+pub at-or-after : (t : Bool) (r : Refusal) (rest : List Rule) {q : Refusal} → broken (t otherwise r ∷ rest) ≡ First q
+    → ((t ≡ false) × (r ≡ q)) ⊎ ((t ≡ true) × (broken rest ≡ First q))
+unfolding broken
+at-or-after true r rest e = inr (refl, e)
+at-or-after false r rest e = inl (refl, cc)
+
+-- after one that gives another number
+pub past : (t : Bool) (r : Refusal) (rest : List Rule) {q : Refusal} → broken (t otherwise r ∷ rest) ≡ First q
+    → (refusalNumber r ≡ refusalNumber q → ⊥) → (t ≡ true) × (broken rest ≡ First q)
+past t r rest e n = ⊎-elim (λ a. absurd (n (ap refusalNumber (a .1)))) (λ b. b) (at-or-after t r rest e)
+
+pub never : {q : Refusal} → broken [] ≡ First q → ⊥
+unfolding broken
+never e = let z : _≡_ {A = ℕ} 0 1 = cc in omega (arith, z)
+
 -- ## What a call comes to, by its rules
 module _ {A : Type 0} (rules : List Rule) (refuse : Refusal → A) (result : A) where
   pub refuses : {r : Refusal} → broken rules ≡ First r → checked rules refuse result ≡ refuse r
@@ -83,17 +99,18 @@ finding rules = go (broken rules) refl
     go Nothing e = inl e
     go (First r) e = inr (r, e)
 
--- ## Numbers: no refusal has the number 0 or one of more than 8 bits, and no two have the same
-listed : ℕ → Refusal
-listed k = getD (Length ∷ Length ∷ Range ∷ StateRecord ∷ TransitionRecord ∷ Chain ∷ Repeated ∷ TooLarge ∷ Grid ∷ NotReflexive ∷ NotTransitive ∷ NoState ∷ TooManyRounds ∷ StillRelated ∷ Unsound ∷ Buffer ∷ []) k Length
+-- ## Numbers: no refusal has the number 0 or one of more than 8 bits, and no two have the same number and record
+listed : ℕ → ℕ → Refusal
+listed k j = getD (Length ∷ Length ∷ Range ∷ StateRecord ∷ TransitionRecord ∷ Unreached j ∷ Repeated ∷ TooLarge ∷ Grid ∷ NotReflexive ∷ NotTransitive ∷ NoState ∷ TooManyRounds ∷ StillRelated ∷ Unsound ∷ Buffer ∷ ReachedTwice j ∷ []) k Length
 
-number-law : (r : Refusal) → (1 ≤ refusalNumber r) × (refusalNumber r < 256) × (listed (refusalNumber r) ≡ r)
+number-law : (r : Refusal) → (1 ≤ refusalNumber r) × (refusalNumber r < 256) × (listed (refusalNumber r) (refusalRecord r) ≡ r)
 unfolding listed
 number-law Length = (omega arith, omega arith, refl)
 number-law Range = (omega arith, omega arith, refl)
 number-law StateRecord = (omega arith, omega arith, refl)
 number-law TransitionRecord = (omega arith, omega arith, refl)
-number-law Chain = (omega arith, omega arith, refl)
+number-law (Unreached j) = (omega arith, omega arith, refl)
+number-law (ReachedTwice j) = (omega arith, omega arith, refl)
 number-law Repeated = (omega arith, omega arith, refl)
 number-law TooLarge = (omega arith, omega arith, refl)
 number-law Grid = (omega arith, omega arith, refl)
@@ -111,8 +128,33 @@ numbered r e = omega (arith, number-law r .0)
 pub number-some : (r : Refusal) → (1 ≤ refusalNumber r) × (refusalNumber r < 256)
 number-some r = let n = number-law r in (n .0, n .1)
 
-pub number-same : (q r : Refusal) → refusalNumber q ≡ refusalNumber r → q ≡ r
-number-same q r e = sym (number-law q .2) ∙ ap listed e ∙ number-law r .2
+pub number-same : (q r : Refusal) → refusalNumber q ≡ refusalNumber r → refusalRecord q ≡ refusalRecord r → q ≡ r
+number-same q r e f = sym (number-law q .2) ∙ ap₂ listed e f ∙ number-law r .2
+
+-- a refusal with another number than 5 and 16 is about no record, so its number says which it is
+abbrev pub AboutNone : ℕ → Type 0
+AboutNone x = (x ≡ 5 → ⊥) × (x ≡ 16 → ⊥)
+
+pub no-record : (r : Refusal) → AboutNone (refusalNumber r) → refusalRecord r ≡ 0
+no-record Length n = refl
+no-record Range n = refl
+no-record StateRecord n = refl
+no-record TransitionRecord n = refl
+no-record (Unreached j) n = absurd (n .0 refl)
+no-record (ReachedTwice j) n = absurd (n .1 refl)
+no-record Repeated n = refl
+no-record TooLarge n = refl
+no-record Grid n = refl
+no-record NotReflexive n = refl
+no-record NotTransitive n = refl
+no-record NoState n = refl
+no-record TooManyRounds n = refl
+no-record StillRelated n = refl
+no-record Unsound n = refl
+no-record Buffer n = refl
+
+pub number-alone : (q r : Refusal) → AboutNone (refusalNumber r) → refusalNumber q ≡ refusalNumber r → q ≡ r
+number-alone q r n e = number-same q r e (no-record q (λ f. n .0 (sym e ∙ f), λ f. n .1 (sym e ∙ f)) ∙ sym (no-record r n))
 
 -- ## What an answer without a value says of the rules
 module _ (rules : List Rule) where
@@ -139,13 +181,13 @@ module _ {A : Type 0} (rules : List Rule) (refuse : Refusal → A) (result : A) 
   pub when-kept : broken rules ≡ Nothing → x ≡ result
   when-kept e = sym is ∙ passes rules refuse result e
 
--- a reply has the number of a refusal exactly where that rule is the first to be broken
+-- a reply has the number of a refusal that is about no record exactly where that rule is the first to be broken
 module _ (rules : List Rule) (reply : Reply) (stops : (r : Refusal) → broken rules ≡ First r → reply .refusal ≡ refusalNumber r)
     (goes : broken rules ≡ Nothing → reply .refusal ≡ 0) where
-  pub refusal-iff : (r : Refusal) → (reply .refusal ≡ refusalNumber r) ↔ (broken rules ≡ First r)
-  refusal-iff r = (
+  pub refusal-iff : (r : Refusal) → AboutNone (refusalNumber r) → (reply .refusal ≡ refusalNumber r) ↔ (broken rules ≡ First r)
+  refusal-iff r n = (
     λ e. ⊎-elim (λ p. absurd (numbered r (sym (goes p) ∙ e)))
-        (λ q. q .1 ∙ ap First (number-same (q .0) r (sym (stops (q .0) (q .1)) ∙ e))) (finding rules),
+        (λ q. q .1 ∙ ap First (number-alone (q .0) r n (sym (stops (q .0) (q .1)) ∙ e))) (finding rules),
     stops r,
   )
 

@@ -7,7 +7,7 @@ use mathlib.Core.List.{List, [], _∷_}
 use Rattle.lts.specs.declared.Refusal.{Refusal}
 use Rattle.lts.specs.declared.Checked.{Checked}
 use Rattle.lts.specs.declared.Checked.the-variants.{Passed, Refused}
-use Rattle.lts.specs.Refusal.{refusalNumber}
+use Rattle.lts.specs.Refusal.{refusalNumber, refusalRecord}
 
 -- a rule: a test that is to pass, and the refusal that its breach gives
 infix 70 _otherwise_
@@ -28,16 +28,18 @@ broken (false otherwise r ∷ rules) = First r
 unfoldable pub checked : {A : Type 0} → List Rule → (Refusal → A) → A → A
 checked rules refuse result = elim (broken rules) [ Nothing ↦ result | First r ↦ refuse r ]
 
--- A reply: the refusal's number in the table, 0 for none, and with no refusal the values in the order that document 01 names them in.
+-- A reply: the refusal's number in the table, 0 for none; the number of the record that a refusal 5 or 16 is about, 0 with every other answer;
+-- and with no refusal the values in the order that document 01 names them in.
 pub record Reply : Type 0 where
   pub refusal : ℕ
+  pub recordNumber : ℕ
   pub values : List ℕ
 
 abbrev pub refused : Refusal → Reply
-refused r = record { refusal = refusalNumber r; values = [] }
+refused r = record { refusal = refusalNumber r; recordNumber = refusalRecord r; values = [] }
 
 abbrev pub given : List ℕ → Reply
-given values = record { refusal = 0; values = values }
+given values = record { refusal = 0; recordNumber = 0; values = values }
 
 -- what a check of rules answers that has no value to give; and the reply of such an answer
 unfoldable pub check : List Rule → Checked

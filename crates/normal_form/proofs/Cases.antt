@@ -5,12 +5,12 @@ use mathlib.Core.List.{List, [], _∷_, head-eq-of-cons-eq}
 use mathlib.Core.Path.{_≡_, refl, sym, ap, _∙_, subst}
 use native.Mathlib.Omega.{arith}
 use lib.ListN.{length, replicate}
-use Rattle.lts.specs.Bounded.{allBelow, passing, concatBelow, listBelow}
-use Rattle.lts.specs.declared.Refusal.the-variants.{Length, Range, Chain}
+use Rattle.lts.specs.Bounded.{allBelow, passing, concatBelow, listBelow, lowest}
+use Rattle.lts.specs.declared.Refusal.the-variants.{Length, Range}
 use Rattle.encoding.specs.declared.Header.{Header}
 use Rattle.encoding.specs.declared.Reading.the-variants.{Readable, Refused}
 use Rattle.encoding.specs.Records.{numberAt, headerOf, stateRecordAt, transitionRecordAt, stateRecord, transitionRecord, two, headerBytes, stateBytes, transitionBytes}
-use Rattle.encoding.specs.Encoding.{inRange, stateFits, transitionFits, statesFit, transitionsFit, walk, chain, reached, member, distinct, chainsFit, successor, successorsFit, headedRules, sheetRules, readEncoding}
+use Rattle.encoding.specs.Encoding.{inRange, stateFits, transitionFits, statesFit, transitionsFit, walk, chain, reached, member, onSomeChain, allReached, indices, occurrences, namedTwice, noneTwice, distinct, successor, successorsFit, headedRules, sheetRules, readEncoding}
 use Rattle.lts.specs.declared.Refusal.{Refusal}
 use Rattle.lts.specs.Rule.{Nothing, broken, checked, Reply, refused as Unreadable}
 use Rattle.lts.proofs.Rule.{numbered}
@@ -22,7 +22,7 @@ use Rattle.normal_form.specs.Normalise.{normaliseRules, NormalisePromise
 use Rattle.encoding.proofs.Reader.{readable-of}
 use Rattle.normal_form.proofs.Encodable.{sheet-header, sheet-encodable}
 use Rattle.normal_form.proofs.Laws.{normal-form}
-use Rattle.encoding.proofs.Sheets.{F1, F2, F3, F3-turned, F4, F7, F8, F9, endless, lone, by-action, by-target, chain-turned}
+use Rattle.encoding.proofs.Sheets.{F1, F2, F3, F3-turned, F4, F7, F8, by-action, by-target, chain-turned}
 
 abbrev counts : ℕ → ℕ → ℕ → Header
 counts n m k = record { states = n; actions = m; transitions = k }
@@ -30,11 +30,11 @@ counts n m k = record { states = n; actions = m; transitions = k }
 -- ## Reading
 reads : (readEncoding F1 ≡ Readable (counts 1 0 0)) × (readEncoding F2 ≡ Readable (counts 2 1 2)) × (readEncoding F3 ≡ Readable (counts 3 1 2))
     × (readEncoding F3-turned ≡ Readable (counts 3 1 2)) × (readEncoding F4 ≡ Readable (counts 4 1 3)) × (readEncoding F7 ≡ Refused Range)
-    × (readEncoding F8 ≡ Refused Length) × (readEncoding F9 ≡ Refused Chain) × (readEncoding endless ≡ Refused Chain) × (readEncoding lone ≡ Refused Chain)
+    × (readEncoding F8 ≡ Refused Length)
     × (readEncoding by-action ≡ Readable (counts 2 2 2)) × (readEncoding by-target ≡ Readable (counts 2 2 2))
     × (readEncoding chain-turned ≡ Readable (counts 2 2 2))
-unfolding numberAt headerOf stateRecordAt transitionRecordAt stateRecord transitionRecord inRange stateFits transitionFits allBelow statesFit transitionsFit walk chain concatBelow reached member distinct chainsFit successor successorsFit headedRules sheetRules broken checked readEncoding
-reads = (refl, refl, refl, refl, refl, refl, refl, refl, refl, refl, refl, refl, refl)
+unfolding numberAt headerOf stateRecordAt transitionRecordAt stateRecord transitionRecord inRange stateFits transitionFits allBelow statesFit transitionsFit walk chain concatBelow reached member listBelow lowest onSomeChain allReached indices occurrences namedTwice noneTwice distinct successor successorsFit headedRules sheetRules broken checked readEncoding
+reads = (refl, refl, refl, refl, refl, refl, refl, refl, refl, refl)
 
 -- the ranges of n, m and k
 limits : (inRange (counts 1 0 0) ≡ true) × (inRange (counts 256 64 1024) ≡ true) × (inRange (counts 0 64 1024) ≡ false)
@@ -65,17 +65,17 @@ form : (s : List ℕ) {h : Header} → readEncoding s ≡ Readable h → NormalF
 form s e = normal-form (ltsOf s) (sheet-encodable (readable-of e))
 
 same-lts : ltsOf by-target ≡ ltsOf by-action
-same-lts = sym (form by-target (reads .11) .same) ∙ ap ltsOf (normals .3 ∙ sym (normals .2)) ∙ form by-action (reads .10) .same
+same-lts = sym (form by-target (reads .8) .same) ∙ ap ltsOf (normals .3 ∙ sym (normals .2)) ∙ form by-action (reads .7) .same
 
 refused : NormalForm (ltsOf by-action) by-target → ⊥
-refused f = not-normal .0 (subst (IsNormal by-target) (sheet-header (readable-of (reads .10))) (f .normal))
+refused f = not-normal .0 (subst (IsNormal by-target) (sheet-header (readable-of (reads .7))) (f .normal))
 
 -- ## Wrong outcomes that the promise refuses
 blank : List ℕ
 blank = replicate (length by-action) 0
 
 rules-kept : broken (normaliseRules by-action blank) ≡ Nothing
-unfolding blank numberAt headerOf stateRecordAt transitionRecordAt stateRecord transitionRecord inRange stateFits transitionFits allBelow statesFit transitionsFit walk chain concatBelow reached member distinct chainsFit successor successorsFit headedRules sheetRules normaliseRules broken
+unfolding blank numberAt headerOf stateRecordAt transitionRecordAt stateRecord transitionRecord inRange stateFits transitionFits allBelow statesFit transitionsFit walk chain concatBelow reached member listBelow lowest onSomeChain allReached indices occurrences namedTwice noneTwice distinct successor successorsFit headedRules sheetRules normaliseRules broken
 rules-kept = refl
 
 -- records in another order; nothing written; a refusal of what keeps the rules

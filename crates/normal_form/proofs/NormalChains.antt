@@ -12,8 +12,8 @@ use lib.ListN.{length, drop, drop-of-length-le}
 use lib.Dec.{eqb, leb, ltb}
 use Rattle.encoding.specs.declared.Header.{Header}
 use Rattle.encoding.specs.Records.{stateRecord, transitionRecord}
-use Rattle.encoding.specs.Encoding.{walk, chain, reached, member, distinct, statesFit, stateFits, transitionsFit, transitionFits, chainsFit, successor}
-use Rattle.encoding.specs.Checked.{Recorded}
+use Rattle.encoding.specs.Encoding.{walk, chain, reached, member, distinct, statesFit, stateFits, transitionsFit, transitionFits, allReached, onSomeChain, successor}
+use Rattle.encoding.specs.Checked.{Recorded, chainsFit}
 use Rattle.lts.specs.System.{Lts}
 use Rattle.lts.specs.Transitions.{Transition, transitionsOf, transitionsBelow, transitions}
 use Rattle.normal_form.specs.Normal.{firstIndex, nextIndex, normalHeader, normal, normalState, normalTransition}
@@ -194,7 +194,7 @@ module _ (L : Lts) (w : Encodable L) where
   reached-on zero l = sym (rw at-none (upto-none 1))
   reached-on (suc p) l = rw (reached-on p (omega arith), chain-on p l, ends p, upto-add, one-add)
 
-  -- ## Rules 1 to 5
+  -- ## Rules 1 to 5, and 16
   pub state-is : (p : ℕ) → p < L .states
       → stateRecord (normal L) h p ≡ record { mark = cond (L .terminating p) 1 0; spare = 0; first = firstIndex (at p) (at (suc p)) }
   unfolding at normalState
@@ -241,7 +241,7 @@ module _ (L : Lts) (w : Encodable L) where
   at-end = refl
 
   pub chains-ok : chainsFit (normal L) h ≡ true
-  unfolding chainsFit
+  unfolding chainsFit allReached onSomeChain
   chains-ok =
       rw (reached-on (L .states) (le-refl _), at-end, upto-distinct 1 (length all))
       (all-of (length all) _ (λ i l. upto-in (i + 1) 1 (length all) (omega arith) (omega arith)))

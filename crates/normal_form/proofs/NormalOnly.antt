@@ -24,7 +24,8 @@ use Rattle.lts.proofs.Lists.{Every}
 use Rattle.encoding.proofs.Chains.{transition-known}
 use Rattle.encoding.proofs.Denotation.{transition-member, mark-byte}
 use Rattle.transitions.proofs.Codes.{Rising, rising-out}
-use Rattle.encoding.proofs.Counting.{member-keeps, Good, good-successors}
+use Rattle.encoding.proofs.Counting.{Good, good-successors}
+use Rattle.encoding.proofs.Members.{member-keeps}
 use Rattle.normal_form.proofs.Ordered.{chain-ends, chain-rising, each-record}
 
 -- ## Rising lists with the same members are equal

@@ -121,7 +121,7 @@ pub fn normalise(s: &[u8], out: &mut [u8]) -> lts::Checked
     ensures { λ r. ⌜ normaliseCall (now (s .entry)) (now (out .entry)) ≡ record { reply = checkedReply r; out = now (out .exit) } ⌝ }
     ensures { λ r. ⌜ NormalisePromise (now (s .entry)) (now (out .entry)) (checkedReply r) (now (out .exit)) ⌝ }
 {
-    let answer = encoding::read_encoding(s);
+    let answer = reader::read_encoding(s);
     match answer {
         encoding::Reading::Refused(r) => lts::Checked::Refused(r),
         encoding::Reading::Readable(h) => {

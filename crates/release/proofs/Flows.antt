@@ -3,7 +3,7 @@ use Prim.Native.Nat.{ℕ}
 use mathlib.Core.Bool.{xor}
 use mathlib.Core.List.{List, [], _∷_}
 use mathlib.Core.Path.{_≡_, refl}
-use Rattle.lts.specs.declared.Refusal.the-variants.{Length, Range, Chain}
+use Rattle.lts.specs.declared.Refusal.the-variants.{Length, Range, ReachedTwice}
 use Rattle.lts.specs.Bounded.{anyBelow, allBelow, sumBelow, countBelow, passing, concatBelow, listBelow, lowest, restrict}
 use Rattle.lts.specs.System.{allStates, anyState, allActions, anyAction, into, terminationPreorder, answered}
 use Rattle.lts.specs.Refinement.{run, step, stepOf, eachAction, chosen, pending, isRepresentative, representative, representatives, block, coarsest, initial, pairCount, blockCount, refine, split, prune, remove}
@@ -12,7 +12,7 @@ use Rattle.lts.specs.Strategy.{holds, sound, allSound, accepted, lastOf, entrie
 use Rattle.lts.specs.Game.{defenderLoses, challengerWins}
 use Rattle.lts.specs.Rule.{broken, checked, given, refused}
 use Rattle.encoding.specs.Records.{numberAt, headerOf, stateRecordAt, transitionRecordAt, stateRecord, transitionRecord}
-use Rattle.encoding.specs.Encoding.{inRange, stateFits, transitionFits, statesFit, transitionsFit, walk, chain, reached, member, distinct, chainsFit, successor, successorsFit, headedRules, sheetRules}
+use Rattle.encoding.specs.Encoding.{inRange, stateFits, transitionFits, statesFit, transitionsFit, walk, chain, reached, member, onSomeChain, allReached, indices, occurrences, namedTwice, noneTwice, distinct, successor, successorsFit, headedRules, sheetRules}
 use Rattle.encoding.specs.Denotation.{any, ltsOf}
 use Rattle.encoding.proofs.Sheets.{F1, F2, F3, F4, F7, F8, F9}
 use Rattle.rows.specs.Rows.{bit, wordOf, wordAt}
@@ -68,9 +68,9 @@ flows :
     -- F6: 1 round not won, 2 won
     × (playCall F3 all 2 0 1 ≡ given (0 ∷ []))
     × (playCall F3 all 2 0 2 ≡ given (1 ∷ []))
-    -- F7, F8, F9: 2, 1, 5, and the buffers stay
+    -- F7, F8, F9: 2, 1, 16 with record 1, and the buffers stay
     × (coarsestCall F7 all [] three three ≡ record { reply = refused Range; grid = three; representatives = three })
     × (coarsestCall F8 all [] three three ≡ record { reply = refused Length; grid = three; representatives = three })
-    × (coarsestCall F9 all [] three three ≡ record { reply = refused Chain; grid = three; representatives = three })
-unfolding numberAt headerOf stateRecordAt transitionRecordAt stateRecord transitionRecord inRange stateFits transitionFits anyBelow allBelow sumBelow countBelow passing concatBelow listBelow lowest restrict statesFit transitionsFit walk chain reached member distinct chainsFit successor successorsFit headedRules sheetRules broken checked any ltsOf isMatrix reflexiveBelow transitiveBelow transitiveAt transitivePair startRules inputRules pairRules bit wordOf wordAt inMatrix matrixOf allStates anyState allActions anyAction into terminationPreorder answered run step stepOf eachAction chosen pending isRepresentative representative representatives block coarsest initial pairCount blockCount refine split prune remove xor round refutedAt refutationRound holds sound allSound accepted lastOf entriesOf entryNumbers unanswered entryAt entriesIn entriesBefore strategyAt strategy refutedCount strategyLength defenderLoses challengerWins terminationRules terminationCall coarsestRules refined coarsestCall checkRules checkCall writeRules writeCall playRules playCall
+    × (coarsestCall F9 all [] three three ≡ record { reply = refused (ReachedTwice 1); grid = three; representatives = three })
+unfolding numberAt headerOf stateRecordAt transitionRecordAt stateRecord transitionRecord inRange stateFits transitionFits anyBelow allBelow sumBelow countBelow passing concatBelow listBelow lowest restrict statesFit transitionsFit walk chain reached member onSomeChain allReached indices occurrences namedTwice noneTwice distinct successor successorsFit headedRules sheetRules broken checked any ltsOf isMatrix reflexiveBelow transitiveBelow transitiveAt transitivePair startRules inputRules pairRules bit wordOf wordAt inMatrix matrixOf allStates anyState allActions anyAction into terminationPreorder answered run step stepOf eachAction chosen pending isRepresentative representative representatives block coarsest initial pairCount blockCount refine split prune remove xor round refutedAt refutationRound holds sound allSound accepted lastOf entriesOf entryNumbers unanswered entryAt entriesIn entriesBefore strategyAt strategy refutedCount strategyLength defenderLoses challengerWins terminationRules terminationCall coarsestRules refined coarsestCall checkRules checkCall writeRules writeCall playRules playCall
 flows = (refl, refl, refl, refl, refl, refl, refl, refl, refl, refl, refl, refl, refl, refl, refl)

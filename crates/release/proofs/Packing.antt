@@ -9,7 +9,7 @@ use borrow.Author.Tests.{eq-eqb, ne-eqb}
 use lib.Pow.{pow-add, high, low}
 use lib.Dec.{eqb}
 use Rattle.lts.specs.Rule.{Reply, given, refused}
-use Rattle.lts.specs.Refusal.{refusalNumber}
+use Rattle.lts.specs.Refusal.{refusalNumber, refusalRecord}
 use Rattle.lts.specs.declared.Refusal.{Refusal}
 use Rattle.lts.proofs.Rule.{number-some}
 use Rattle.release.specs.Packed.{placed, packed, fields, unpacked}
@@ -51,18 +51,20 @@ fields-are (more p w v places values l k) x h =
     let next : x + (2 ^ p * v + placed ((p + w) ∷ places) values) ≡ (x + 2 ^ p * v) + placed ((p + w) ∷ places) values = omega arith in
     ap₂ (λ (a : ℕ) (b : List ℕ). a ∷ b) first (ap (fields ((p + w) ∷ places)) next ∙ fields-are k (x + 2 ^ p * v) (under p w v x l h))
 
-small-refused : (r : Refusal) (x : ℕ) → x ≡ refusalNumber r → (places : List ℕ) → unpacked places x ≡ refused r
+-- a refusal's number and its record's number from bit 8 on
+from-refused : (r : Refusal) (x : ℕ) → x ≡ refusalNumber r + 256 * refusalRecord r → (places : List ℕ) → unpacked places x ≡ refused r
 unfolding unpacked
-small-refused r x e places =
+from-refused r x e places =
     let s = number-some r in
-    let m : x % 256 ≡ refusalNumber r = omega (arith, s) in
-    rw (m, ne-eqb (refusalNumber r) 0 (λ z. omega (arith, s, z)))
+    let m : x % 256 ≡ refusalNumber r = omega (arith, s, e) in
+    let d : x / 256 ≡ refusalRecord r = omega (arith, s, e) in
+    rw (m, d, ne-eqb (refusalNumber r) 0 (λ z. omega (arith, s, z)))
 
 -- a refusal at any places, no value at none, and values that keep to places from bit 8 on
 pub unpack-refused : (places : List ℕ) (r : Refusal) → unpacked places (packed places (refused r)) ≡ refused r
 unfolding unpacked packed placed
-unpack-refused [] r = small-refused r (refusalNumber r + 0) (omega arith) []
-unpack-refused (p ∷ places) r = small-refused r (refusalNumber r + 0) (omega arith) (p ∷ places)
+unpack-refused [] r = from-refused r (refusalNumber r + 256 * refusalRecord r + 0) (omega arith) []
+unpack-refused (p ∷ places) r = from-refused r (refusalNumber r + 256 * refusalRecord r + 0) (omega arith) (p ∷ places)
 
 pub unpack-none : unpacked [] (packed [] (given [])) ≡ given []
 unfolding unpacked packed placed fields

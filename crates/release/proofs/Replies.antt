@@ -4,7 +4,7 @@ use native.Mathlib.Omega.{arith}
 use mathlib.Core.Path.{_≡_, refl, sym, ap, subst, _∙_}
 use mathlib.Core.List.{List, [], _∷_}
 use Rattle.lts.specs.declared.Refusal.{Refusal}
-use Rattle.lts.specs.Refusal.{refusalNumber}
+use Rattle.lts.specs.Refusal.{refusalNumber, refusalRecord}
 use Rattle.lts.specs.declared.Checked.{Checked}
 use Rattle.lts.specs.declared.Checked.the-variants.{Passed, Refused as Stopped}
 use Rattle.lts.specs.Rule.{Reply, refused, given, checkedReply}
@@ -46,7 +46,8 @@ packs-same places reply e q = q ∙ ap (λ y. packed places (reply y)) (sym e)
 pub kept-same : {A : Type 0} (places : List ℕ) (reply : A → Reply) {a b : A} → a ≡ b → Kept places (reply b) → Kept places (reply a)
 kept-same places reply e k = subst (λ y. Kept places (reply y)) (sym e) k
 
-pub refused-packed : (places : List ℕ) (r : Refusal) → refusalNumber r ≡ packed places (refused r)
+-- a refusal is the same number at any places
+pub refused-packed : (places : List ℕ) (r : Refusal) → refusalNumber r + 256 * refusalRecord r ≡ packed places (refused r)
 unfolding packed placed
 refused-packed [] r = omega arith
 refused-packed (p ∷ places) r = omega arith

@@ -1,5 +1,5 @@
--- How the one number that an exported call returns carries its reply: bits 0 to 7 hold the refusal's number, or 0, and with no refusal each
--- value stands from its place on, below the next value's place.
+-- How the one number that an exported call returns carries its reply: bits 0 to 7 hold the refusal's number, or 0. A refused result has the
+-- record's number from bit 8 on (at most 1,024: bits 8 to 23); with no refusal each value stands from its place on, below the next value's place.
 use Prim.Native.Nat.{ℕ, _+_, _*_, _-_, _/_, _%_, _^_}
 use mathlib.Core.Bool.{cond}
 use mathlib.Core.List.{List, [], _∷_}
@@ -12,7 +12,7 @@ placed (p ∷ places) [] = 0
 placed (p ∷ places) (v ∷ values) = 2 ^ p * v + placed places values
 
 unfoldable pub packed : List ℕ → Reply → ℕ
-packed places r = r .refusal + placed places (r .values)
+packed places r = r .refusal + 256 * r .recordNumber + placed places (r .values)
 
 -- the values that a number carries at the places
 unfoldable pub fields : List ℕ → ℕ → List ℕ
@@ -22,7 +22,7 @@ fields (p ∷ q ∷ places) x = x / 2 ^ p % 2 ^ (q - p) ∷ fields (q ∷ places
 
 -- the reply that a number carries
 unfoldable pub unpacked : List ℕ → ℕ → Reply
-unpacked places x = cond (eqb (x % 256) 0) (given (fields places x)) (record { refusal = x % 256; values = [] })
+unpacked places x = cond (eqb (x % 256) 0) (given (fields places x)) (record { refusal = x % 256; recordNumber = x / 256; values = [] })
 
 -- where the values of each call stand. Coarsest: turns, kept pairs, blocks; compare: yes, turns; test simulation and hand play: yes, or won;
 -- check plan: the pair; write plan: the entries; join: the length; normalise and end start have none.

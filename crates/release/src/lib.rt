@@ -1,6 +1,8 @@
 // The exported calls (document 01, "Hand play and comparison"): the release tool calls coarsest and compare, tests and bindings the others.
 // Grids and 16-bit lists are carried as bytes, low byte first. The result is one number that carries the reply, as specs/Packed.antt says.
+ghost use Prim.Native.Nat.{_+_, _*_};
 ghost use mathlib.Core.Path.{_≡_};
+ghost use Rattle.lts.specs.Refusal.{refusalNumber, refusalRecord};
 ghost use Rattle.lts.specs.Rule.{checkedReply};
 ghost use Rattle.carry.specs.Bytes.{wordsOf};
 ghost use Rattle.normal_form.specs.Normalise.{normaliseCall, NormalisePromise};
@@ -18,12 +20,19 @@ ghost use Rattle.strategy_bytes.specs.Bytes.{entryBytes, entriesOfBytes};
 ghost use Rattle.release.specs.Packed.{packed, unpacked, coarsestPlaces, comparePlaces, pairPlaces, onePlace, noPlace};
 ghost use Rattle.release.specs.EndStart.{endStartOnBytes, EndStartBytesPromise};
 
+// A refusal and its record, as one number: `packed` of it at any places.
+fn pack_refused(r: lts::Refusal) -> u64
+    ensures { λ x. ⌜ x ≡ refusalNumber r + 256 * refusalRecord r ⌝ }
+{
+    lts::refusal_number(r) + 256 * (lts::refusal_record(r) as u64)
+}
+
 // A reply without a value, as one number.
 fn pack_checked(answer: lts::Checked) -> u64
     ensures { λ r. ⌜ r ≡ packed noPlace (checkedReply answer) ⌝ }
 {
     match answer {
-        lts::Checked::Refused(r) => lts::refusal_number(r),
+        lts::Checked::Refused(r) => pack_refused(r),
         lts::Checked::Passed => 0,
     }
 }
@@ -33,7 +42,7 @@ fn pack_tested(answer: simulation::Tested) -> u64
     ensures { λ r. ⌜ r ≡ packed onePlace (simulationReply answer) ⌝ }
 {
     match answer {
-        simulation::Tested::Refused(r) => lts::refusal_number(r),
+        simulation::Tested::Refused(r) => pack_refused(r),
         simulation::Tested::Yes => 256,
         simulation::Tested::No => 0,
     }
@@ -44,7 +53,7 @@ fn pack_played(answer: game::Played) -> u64
     ensures { λ r. ⌜ r ≡ packed onePlace (playReply answer) ⌝ }
 {
     match answer {
-        game::Played::Refused(r) => lts::refusal_number(r),
+        game::Played::Refused(r) => pack_refused(r),
         game::Played::Won => 256,
         game::Played::NotWon => 0,
     }
@@ -77,7 +86,7 @@ pub extern "C" fn flow_coarsest(
 {
     let answer = coarsest_bytes::coarsest_on_bytes(s, start, schedule, grid, representatives);
     match answer {
-        coarsest::Answer::Refused(r) => lts::refusal_number(r),
+        coarsest::Answer::Refused(r) => pack_refused(r),
         coarsest::Answer::Done(counts) => pack_counts(counts),
     }
 }
@@ -91,7 +100,7 @@ pub extern "C" fn flow_compare(first: &[u8], second: &[u8]) -> u64
 {
     let answer = comparison::compare(first, second);
     match answer {
-        comparison::Compared::Refused(r) => lts::refusal_number(r),
+        comparison::Compared::Refused(r) => pack_refused(r),
         comparison::Compared::Yes(steps) => 256 + 65536 * (steps as u64),
         comparison::Compared::No(steps) => 65536 * (steps as u64),
     }
@@ -107,7 +116,7 @@ pub extern "C" fn flow_join(first: &[u8], second: &[u8], out: &mut [u8]) -> u64
 {
     let answer = disjoint_union::join(first, second, out);
     match answer {
-        disjoint_union::Joined::Refused(r) => lts::refusal_number(r),
+        disjoint_union::Joined::Refused(r) => pack_refused(r),
         disjoint_union::Joined::Written(length) => 256 * (length as u64),
     }
 }
@@ -183,7 +192,7 @@ pub extern "C" fn flow_check_plan(s: &[u8], start: &[u8], plan: &[u8]) -> u64
     let n = carry::load_grid(start, &mut words);
     let answer = strategy_bytes::check_bytes(s, &words[..n], plan);
     match answer {
-        strategy::Verdict::Refused(r) => lts::refusal_number(r),
+        strategy::Verdict::Refused(r) => pack_refused(r),
         strategy::Verdict::Last(p, q) => 256 * (p as u64) + 16777216 * (q as u64),
     }
 }
@@ -201,7 +210,7 @@ pub extern "C" fn flow_write_plan(s: &[u8], start: &[u8], p: u64, q: u64, plan: 
     let n = carry::load_grid(start, &mut words);
     let answer = strategy_bytes::write_bytes(s, &words[..n], p as usize, q as usize, plan);
     match answer {
-        strategy::Written::Refused(r) => lts::refusal_number(r),
+        strategy::Written::Refused(r) => pack_refused(r),
         strategy::Written::Entries(count) => 256 * (count as u64),
     }
 }

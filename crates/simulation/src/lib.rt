@@ -73,7 +73,7 @@ pub fn termination_preorder(s: &[u8], grid: &mut [u64]) -> lts::Checked
     ensures { λ r. ⌜ terminationCall (now (s .entry)) (now (grid .entry)) ≡ record { reply = checkedReply r; grid = now (grid .exit) } ⌝ }
     ensures { λ r. ⌜ TerminationPromise (now (s .entry)) (now (grid .entry)) (checkedReply r) (now (grid .exit)) ⌝ }
 {
-    let reading = encoding::read_encoding(s);
+    let reading = reader::read_encoding(s);
     match reading {
         encoding::Reading::Refused(r) => lts::Checked::Refused(r),
         encoding::Reading::Readable(h) => {

@@ -27,7 +27,7 @@ use Rattle.lts.proofs.Step.{On}
 use Rattle.lts.proofs.Run.{Coarsest, coarsest-is}
 use Rattle.lts.proofs.Rounds.{next-iff, round-states, stable-round, refuted-by, dropped-iff}
 use Rattle.lts.proofs.Demand.{strategies}
-use Rattle.lts.proofs.Rule.{second-part, kept, both-kept, when-broken, when-kept, refusal-iff, exactly}
+use Rattle.lts.proofs.Rule.{second-part, kept, both-kept, when-broken, when-kept, AboutNone, refusal-iff, exactly}
 use Rattle.encoding.specs.Records.{headerOf}
 use Rattle.encoding.specs.Denotation.{ltsOf}
 use Rattle.encoding.specs.Read.{Denoted}
@@ -167,7 +167,9 @@ module _ (s start : List ℕ) (entries : List Entry) (reply : Reply) (is : check
   check-promised = record {
     refuses = check-broken;
     unsound = λ k.
-        let number = refusal-iff (checkRules s start entries) reply (λ r e. ap (λ (x : Reply). x .refusal) (check-broken r e)) (λ e. ap (λ (x : Reply). x .refusal) (check-kept e)) Unsound in
+        let number = refusal-iff (checkRules s start entries) reply
+        (λ r e. ap (λ (x : Reply). x .refusal) (check-broken r e)) (λ e. ap (λ (x : Reply). x .refusal) (check-kept e))
+        Unsound (λ e. omega (arith, e), λ e. omega (arith, e)) in
         let test = exactly (inputRules s start) (accepted (ltsOf s) (startOf s start) entries) Unsound [] k (λ e. let z : _≡_ {A = ℕ} 0 1 = cc in omega arith) in
         (λ e. test .0 (number .0 e), λ t. number .1 (test .1 t));
     answers = accepting;
@@ -227,7 +229,7 @@ module _ {A : Type 0} (entriesIn : List A → List Entry) (carried : List Entry 
   unfolding writeCall
   write-kept e = when-kept rules _ _ is e
 
-  number : (r : Refusal) → (reply .refusal ≡ refusalNumber r) ↔ (broken rules ≡ First r)
+  number : (r : Refusal) → AboutNone (refusalNumber r) → (reply .refusal ≡ refusalNumber r) ↔ (broken rules ≡ First r)
   number = refusal-iff rules reply (λ r e. ap (λ (o : WriteOutcome A). o .reply .refusal) (write-broken r e)) (λ e. ap (λ (o : WriteOutcome A). o .reply .refusal) (write-kept e))
 
   module _ (read : broken (pairRules s start p q) ≡ Nothing) (schedule : List ℕ) where
@@ -240,7 +242,7 @@ module _ {A : Type 0} (entriesIn : List A → List Entry) (carried : List Entry 
     related : (reply .refusal ≡ 13) ↔ T (keptPairs s start schedule p q)
     unfolding writeRules
     related =
-        let n = number StillRelated in
+        let n = number StillRelated (λ e. omega (arith, e), λ e. omega (arith, e)) in
         let test = exactly (pairRules s start p q) falling StillRelated (fits otherwise Buffer ∷ []) read (other-refusal fits) in
         let other = opposite falling (keptPairs s start schedule p q) falls-iff in
         (λ e. other .0 (test .0 (n .0 e)), λ t. n .1 (test .1 (other .1 t)))
@@ -248,7 +250,7 @@ module _ {A : Type 0} (entriesIn : List A → List Entry) (carried : List Entry 
     short : Dropped → (reply .refusal ≡ 15) ↔ (length plan₀ / width < k)
     unfolding writeRules broken
     short dropped =
-        let n = number Buffer in
+        let n = number Buffer (λ e. omega (arith, e), λ e. omega (arith, e)) in
         let left : broken rules ≡ broken (fits otherwise Buffer ∷ []) = second-part (pairRules s start p q) _ read ∙ rw (T-true falling (falls-iff .1 dropped)) in
         let test = exactly [] fits Buffer [] refl (λ e. let z : _≡_ {A = ℕ} 0 1 = cc in omega arith) in
         let room = no-room k (length plan₀ / width) in

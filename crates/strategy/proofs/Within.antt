@@ -59,7 +59,7 @@ count-test room k few = by (leb room 65536) refl
 refused-answer : (t : Written) (r : Refusal) → writeReply t ≡ refused r → t ≡ Refused r
 unfolding writeReply
 refused-answer (Entries c) r e = absurd (numbered r (ap (λ (x : Reply). x .refusal) e))
-refused-answer (Refused q) r e = ap Refused (number-same q r (ap (λ (x : Reply). x .refusal) e))
+refused-answer (Refused q) r e = ap Refused (number-same q r (ap (λ (x : Reply). x .refusal) e) (ap (λ (x : Reply). x .recordNumber) e))
 
 given-answer : (t : Written) (k : ℕ) → writeReply t ≡ given (k ∷ []) → t ≡ Entries k
 unfolding writeReply

@@ -1,5 +1,6 @@
 // Runs every call of the library on cases from standard input, and prints a line of numbers for each: the case's number, its operation, the
-// refusal (0 for none), the values, and a checksum of each lent buffer as it is afterwards. A case is one byte, its operation, and its fields.
+// refusal and its record's number (0 for none), the values, and a checksum of each lent buffer as it is afterwards. A case is one byte, its
+// operation, and its fields.
 mod checksums;
 mod entries;
 mod fields;

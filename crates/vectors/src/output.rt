@@ -17,19 +17,36 @@ pub fn put_two(x: u64, y: u64) {
     put(y);
 }
 
-pub fn put_three(x: u64, y: u64, z: u64) {
+fn put_three(x: u64, y: u64, z: u64) {
     put_two(x, y);
     put(z);
 }
 
-pub fn put_four(x: u64, y: u64, z: u64, w: u64) {
-    put_two(x, y);
-    put_two(z, w);
+// Writes 0 for the refusal and 0 for its record, and a value.
+pub fn put_one_value(x: u64) {
+    put_three(0, 0, x);
 }
 
-// Writes the number of a refusal, and 0 for each of so many values.
+// The same with two values.
+pub fn put_two_values(x: u64, y: u64) {
+    put_two(0, 0);
+    put_two(x, y);
+}
+
+// The same with three values.
+pub fn put_three_values(x: u64, y: u64, z: u64) {
+    put_two(0, 0);
+    put_three(x, y, z);
+}
+
+// Writes the number of a refusal and its record's number.
+fn put_refusal(r: lts::Refusal) {
+    put_two(lts::refusal_number(r), lts::refusal_record(r) as u64);
+}
+
+// Writes a refusal with its record, and 0 for each of so many values.
 pub fn put_refused(r: lts::Refusal, values: u8) {
-    put(lts::refusal_number(r));
+    put_refusal(r);
     match values {
         1 => put(0),
         2 => put_two(0, 0),
@@ -37,11 +54,11 @@ pub fn put_refused(r: lts::Refusal, values: u8) {
     }
 }
 
-// Writes 0, or the number of the refusal.
+// Writes an answer without values: 0 and 0, or the refusal with its record.
 pub fn put_checked(answer: lts::Checked) {
     match answer {
-        lts::Checked::Passed => put(0),
-        lts::Checked::Refused(r) => put(lts::refusal_number(r)),
+        lts::Checked::Passed => put_two(0, 0),
+        lts::Checked::Refused(r) => put_refusal(r),
     }
 }
 

@@ -3,11 +3,11 @@ use super::checksums;
 use super::fields;
 use super::output;
 
-// Writes the refusal, the steps, the pairs and the blocks.
+// Writes the refusal with its record, the steps, the pairs and the blocks.
 fn put_answer(answer: coarsest::Answer) {
     match answer {
         coarsest::Answer::Done(c) => {
-            output::put_four(0, c.steps as u64, c.pairs as u64, c.blocks as u64)
+            output::put_three_values(c.steps as u64, c.pairs as u64, c.blocks as u64)
         }
         coarsest::Answer::Refused(r) => output::put_refused(r, 3),
     }

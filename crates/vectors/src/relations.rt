@@ -17,8 +17,8 @@ pub fn run_termination(s: &[u8]) {
 
 fn put_tested(answer: simulation::Tested) {
     match answer {
-        simulation::Tested::Yes => output::put_two(0, 1),
-        simulation::Tested::No => output::put_two(0, 0),
+        simulation::Tested::Yes => output::put_one_value(1),
+        simulation::Tested::No => output::put_one_value(0),
         simulation::Tested::Refused(r) => output::put_refused(r, 1),
     }
 }
@@ -32,8 +32,8 @@ pub fn run_tested(s: &[u8], start: &[u64]) {
 
 fn put_played(answer: game::Played) {
     match answer {
-        game::Played::Won => output::put_two(0, 1),
-        game::Played::NotWon => output::put_two(0, 0),
+        game::Played::Won => output::put_one_value(1),
+        game::Played::NotWon => output::put_one_value(0),
         game::Played::Refused(r) => output::put_refused(r, 1),
     }
 }

@@ -17,8 +17,8 @@ pub fn run_normal(s: &[u8]) {
 
 fn put_compared(answer: comparison::Compared) {
     match answer {
-        comparison::Compared::Yes(steps) => output::put_three(0, 1, steps as u64),
-        comparison::Compared::No(steps) => output::put_three(0, 0, steps as u64),
+        comparison::Compared::Yes(steps) => output::put_two_values(1, steps as u64),
+        comparison::Compared::No(steps) => output::put_two_values(0, steps as u64),
         comparison::Compared::Refused(r) => output::put_refused(r, 2),
     }
 }
@@ -32,13 +32,12 @@ pub fn run_compared(first: &[u8]) {
 
 // Operation 9, read: a sheet.
 pub fn run_reading(s: &[u8]) {
-    put_reading(encoding::read_encoding(s));
+    put_reading(reader::read_encoding(s));
 }
 
 fn put_reading(answer: encoding::Reading) {
     match answer {
-        encoding::Reading::Readable(h) => output::put_four(
-            0,
+        encoding::Reading::Readable(h) => output::put_three_values(
             h.states as u64,
             h.actions as u64,
             h.transitions as u64,
@@ -49,7 +48,7 @@ fn put_reading(answer: encoding::Reading) {
 
 fn put_length(answer: disjoint_union::Joined) {
     match answer {
-        disjoint_union::Joined::Written(length) => output::put_two(0, length as u64),
+        disjoint_union::Joined::Written(length) => output::put_one_value(length as u64),
         disjoint_union::Joined::Refused(r) => output::put_refused(r, 1),
     }
 }

@@ -6,7 +6,7 @@ use super::output;
 // Writes the answer of a check.
 pub fn put_verdict(answer: strategy::Verdict) {
     match answer {
-        strategy::Verdict::Last(p, q) => output::put_three(0, p as u64, q as u64),
+        strategy::Verdict::Last(p, q) => output::put_two_values(p as u64, q as u64),
         strategy::Verdict::Refused(r) => output::put_refused(r, 2),
     }
 }
@@ -14,7 +14,7 @@ pub fn put_verdict(answer: strategy::Verdict) {
 // Writes the answer where a strategy is written.
 pub fn put_written(answer: strategy::Written) {
     match answer {
-        strategy::Written::Entries(count) => output::put_two(0, count as u64),
+        strategy::Written::Entries(count) => output::put_one_value(count as u64),
         strategy::Written::Refused(r) => output::put_refused(r, 1),
     }
 }

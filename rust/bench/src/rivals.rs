@@ -2,6 +2,7 @@
 //! bytes: the base algorithm of document 004 and the plain fixed point.
 
 use reference::lts::Lts;
+use reference::refusal::Refusal;
 use reference::relation::{Preorder, Relation};
 use reference::{compare, grid, sheet};
 
@@ -15,7 +16,7 @@ pub fn coarsest(
     start: &[u8],
     grid: &mut [u8],
     names: &mut [u8],
-) -> Result<(usize, usize), u8> {
+) -> Result<(usize, usize), Refusal> {
     let lts = sheet::read(sheet)?;
     let words: Vec<u64> = start
         .chunks_exact(8)
@@ -38,7 +39,7 @@ pub fn coarsest(
 }
 
 /// Compare on bytes: yes or no.
-pub fn compared(algorithm: Algorithm, first: &[u8], second: &[u8]) -> Result<bool, u8> {
+pub fn compared(algorithm: Algorithm, first: &[u8], second: &[u8]) -> Result<bool, Refusal> {
     let first = sheet::read(first)?;
     let second = sheet::read(second)?;
     let joined = compare::join(&first, &second)?;

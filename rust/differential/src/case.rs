@@ -1,5 +1,6 @@
 //! One call with its lent buffers, and what it comes to.
 
+use reference::refusal::Refusal;
 use std::fmt;
 
 /// The exported calls.
@@ -45,17 +46,17 @@ impl Call {
         }
     }
 
-    /// The refusals that the call can give.
+    /// The numbers of the refusals that the call can give, in the table's order.
     pub fn refusals(self) -> &'static [u8] {
         match self {
-            Call::Coarsest => &[1, 2, 3, 4, 5, 6, 8, 9, 10, 15],
-            Call::Compare => &[1, 2, 3, 4, 5, 6, 7],
-            Call::Normalise | Call::EndStart => &[1, 2, 3, 4, 5, 6, 15],
-            Call::TestSimulation => &[1, 2, 3, 4, 5, 6, 8, 9, 10],
-            Call::CheckPlan => &[1, 2, 3, 4, 5, 6, 8, 9, 10, 14],
-            Call::WritePlan => &[1, 2, 3, 4, 5, 6, 8, 9, 10, 11, 13, 15],
-            Call::HandPlay => &[1, 2, 3, 4, 5, 6, 8, 9, 10, 11, 12],
-            Call::Join => &[1, 2, 3, 4, 5, 6, 7, 15],
+            Call::Coarsest => &[1, 2, 3, 4, 5, 16, 6, 8, 9, 10, 15],
+            Call::Compare => &[1, 2, 3, 4, 5, 16, 6, 7],
+            Call::Normalise | Call::EndStart => &[1, 2, 3, 4, 5, 16, 6, 15],
+            Call::TestSimulation => &[1, 2, 3, 4, 5, 16, 6, 8, 9, 10],
+            Call::CheckPlan => &[1, 2, 3, 4, 5, 16, 6, 8, 9, 10, 14],
+            Call::WritePlan => &[1, 2, 3, 4, 5, 16, 6, 8, 9, 10, 11, 13, 15],
+            Call::HandPlay => &[1, 2, 3, 4, 5, 16, 6, 8, 9, 10, 11, 12],
+            Call::Join => &[1, 2, 3, 4, 5, 16, 6, 7, 15],
         }
     }
 
@@ -75,11 +76,12 @@ pub struct Case {
     pub numbers: Vec<u64>,
 }
 
-/// What a call comes to: the answer's values in order, or the refusal's
-/// number; and every lent buffer afterwards, those only read included.
+/// What a call comes to: the answer's values in order, or the refusal with its
+/// number and its record's; and every lent buffer afterwards, those only read
+/// included.
 #[derive(Clone, PartialEq, Eq)]
 pub struct Outcome {
-    pub answer: Result<Vec<u64>, u8>,
+    pub answer: Result<Vec<u64>, Refusal>,
     pub bytes: Vec<Vec<u8>>,
 }
 
@@ -94,7 +96,7 @@ impl fmt::Debug for Outcome {
     fn fmt(&self, f: &mut fmt::Formatter<'_>) -> fmt::Result {
         match &self.answer {
             Ok(values) => writeln!(f, "answer {values:?}")?,
-            Err(number) => writeln!(f, "refused {number}")?,
+            Err(refusal) => writeln!(f, "refused {} record {}", refusal.number, refusal.record)?,
         }
         write_buffers(f, &self.bytes)
     }

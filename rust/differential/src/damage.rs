@@ -1,9 +1,10 @@
 //! Sheets and lengths that break a rule.
 
+use crate::chains::{self, Fault};
 use reference::lts::Lts;
 use reference::prng::Prng;
 use reference::random;
-use reference::sheet::{length, HEADER, PAGE_RECORD};
+use reference::sheet::{length, HEADER, MOST_MOVES, PAGE_RECORD};
 
 /// A sheet of the flow: mostly readable, sometimes damaged.
 pub fn sheet(rng: &mut Prng, lts: &Lts, damaged: usize) -> Vec<u8> {
@@ -13,6 +14,9 @@ pub fn sheet(rng: &mut Prng, lts: &Lts, damaged: usize) -> Vec<u8> {
         random::shuffled_sheet(rng, lts)
     };
     if rng.chance(damaged) {
+        if rng.chance(4) {
+            return last_record(rng);
+        }
         damage(rng, lts, &mut sheet);
         if rng.chance(20) {
             damage(rng, lts, &mut sheet);
@@ -26,7 +30,7 @@ fn damage(rng: &mut Prng, lts: &Lts, sheet: &mut Vec<u8>) {
     let (n, k) = (lts.states(), lts.transitions().len());
     let page = HEADER + PAGE_RECORD * rng.below(n);
     let record = length(n, rng.below(k.max(1)));
-    match rng.below(9) {
+    match rng.below(14) {
         0 => {
             let wrong = wrong_length(rng, sheet.len(), 1);
             sheet.resize_with(wrong, || rng.bits() as u8);
@@ -41,6 +45,10 @@ fn damage(rng: &mut Prng, lts: &Lts, sheet: &mut Vec<u8>) {
         5 => change_number(rng, sheet, record, lts.actions() + 1),
         6 => change_number(rng, sheet, record + 2, n),
         7 => change_number(rng, sheet, record + 4, k + 1),
+        8..=11 if k > 0 => {
+            let record = if rng.chance(20) { k } else { rng.between(1, k) };
+            put_fault(rng, record, sheet);
+        }
         _ if k > 1 => {
             // The action and target of one record, in another.
             let from = length(n, rng.below(k));
@@ -50,6 +58,25 @@ fn damage(rng: &mut Prng, lts: &Lts, sheet: &mut Vec<u8>) {
         }
         _ => sheet.push(0),
     }
+}
+
+/// Puts some fault of chains at a record, where there is room for it.
+fn put_fault(rng: &mut Prng, record: usize, sheet: &mut [u8]) {
+    let fault = Fault::ALL[rng.below(Fault::ALL.len())];
+    chains::put(rng, fault, record, sheet);
+}
+
+/// A sheet of 1,024 records with some fault of chains at the last.
+fn last_record(rng: &mut Prng) -> Vec<u8> {
+    // A move from every page to every page.
+    const PAGES: usize = 32;
+    const { assert!(PAGES * PAGES == MOST_MOVES) };
+    let moves: Vec<_> = (0..MOST_MOVES)
+        .map(|at| (at / PAGES, 1, at % PAGES))
+        .collect();
+    let mut sheet = random::shuffled_sheet(rng, &Lts::of(PAGES, 1, &moves));
+    put_fault(rng, MOST_MOVES, &mut sheet);
+    sheet
 }
 
 /// Puts a 16-bit number into the sheet, one around the edge or any.
@@ -99,5 +126,44 @@ pub fn wrong_length(rng: &mut Prng, right: usize, unit: usize) -> usize {
         9 => rng.below(right + 1),
         10 => HEADER - 1,
         _ => rng.below(9000),
+    }
+}
+
+#[cfg(test)]
+mod tests {
+    use super::sheet;
+    use crate::flows::{self, Sizes};
+    use reference::prng::Prng;
+    use reference::sheet::read;
+
+    /// Every refusal of a sheet comes out; those about a record with many
+    /// records, the first and the last of 1,024 among them.
+    #[test]
+    fn every_refusal_and_many_records() {
+        let sizes = Sizes {
+            large: 0,
+            edges: 100,
+        };
+        let mut refused = [0; 17];
+        let mut records = [[0; 1_025]; 17];
+        for seed in 0..20_000 {
+            let rng = &mut Prng::new(seed);
+            let lts = flows::flow(rng, sizes);
+            if let Err(refusal) = read(&sheet(rng, &lts, 100)) {
+                let number = usize::from(refusal.number);
+                refused[number] += 1;
+                records[number][usize::from(refusal.record)] += 1;
+            }
+        }
+        for number in [1, 2, 3, 4, 5, 16, 6] {
+            assert!(refused[number] > 100, "{number}: {refused:?}");
+            let about = [5, 16].contains(&number);
+            assert_eq!(records[number][0] == 0, about);
+        }
+        for number in [5, 16] {
+            let different = records[number].iter().filter(|&&count| count > 0).count();
+            assert!(different > 20, "{number}: {different}");
+            assert!(records[number][1] > 100 && records[number][1_024] > 100);
+        }
     }
 }

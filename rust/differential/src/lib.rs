@@ -7,6 +7,7 @@
 #![deny(unsafe_code)]
 
 pub mod case;
+pub mod chains;
 pub mod damage;
 pub mod flows;
 pub mod grids;

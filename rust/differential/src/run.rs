@@ -7,12 +7,20 @@ use crate::make;
 use crate::memory::{Slot, SLOTS};
 use crate::sides;
 
+/// One more than the highest number of a refusal.
+const NUMBERS: usize = 17;
+
+/// The refusals that are about a record.
+const ABOUT_A_RECORD: [u8; 2] = [5, 16];
+
 /// What the cases of one call came to.
 #[derive(Clone, Copy, PartialEq, Eq, Debug)]
 pub struct Tally {
     pub call: Call,
     /// How many were refused, by number.
-    pub refused: [u64; 16],
+    pub refused: [u64; NUMBERS],
+    /// How many of these were about a record above 1.
+    pub past_first: [u64; NUMBERS],
     /// How many were answered, and how many of these with a yes.
     pub answered: u64,
     pub yes: u64,
@@ -33,6 +41,10 @@ impl Tally {
                 missing.push(what.to_string());
             }
         };
+        for number in ABOUT_A_RECORD {
+            let count = self.past_first[usize::from(number)];
+            want(&format!("refusal {number} past record 1"), count);
+        }
         want("an answer", self.answered);
         if self.call.says_yes_or_no() {
             want("a yes", self.yes);
@@ -44,7 +56,11 @@ impl Tally {
     /// Counts one outcome.
     fn count(&mut self, outcome: &Outcome) {
         match &outcome.answer {
-            Err(number) => self.refused[usize::from(*number)] += 1,
+            Err(refusal) => {
+                let number = usize::from(refusal.number);
+                self.refused[number] += 1;
+                self.past_first[number] += u64::from(refusal.record > 1);
+            }
             Ok(values) => {
                 self.answered += 1;
                 if self.call.says_yes_or_no() {
@@ -102,7 +118,8 @@ pub fn run<S: Slot>(
 ) -> Result<Tally, Box<Difference>> {
     let mut tally = Tally {
         call,
-        refused: [0; 16],
+        refused: [0; NUMBERS],
+        past_first: [0; NUMBERS],
         answered: 0,
         yes: 0,
     };

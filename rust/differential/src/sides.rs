@@ -2,7 +2,7 @@
 
 use crate::case::{Call, Case, Outcome};
 use crate::memory::{Slot, SLOTS};
-use flow::Refusal;
+use reference::refusal::Refusal;
 use reference::{compare, game, grid, join, plans, sheet, turns};
 
 /// The archive's outcome, with the lent buffers lying in the given slots.
@@ -15,8 +15,16 @@ pub fn archive<S: Slot>(case: &Case, slots: &mut [S; SLOTS]) -> Outcome {
         .collect();
     let answer = archive_answer(case.call, &mut bytes, &case.numbers);
     Outcome {
-        answer: answer.map_err(Refusal::number),
+        answer: answer.map_err(numbers_of),
         bytes: bytes.iter().map(|buffer| buffer.to_vec()).collect(),
+    }
+}
+
+/// The numbers of a refusal.
+fn numbers_of(refusal: flow::Refusal) -> Refusal {
+    Refusal {
+        number: refusal.number(),
+        record: refusal.record().unwrap_or(0),
     }
 }
 
@@ -25,7 +33,7 @@ fn archive_answer(
     call: Call,
     bytes: &mut [&mut [u8]],
     numbers: &[u64],
-) -> Result<Vec<u64>, Refusal> {
+) -> Result<Vec<u64>, flow::Refusal> {
     match (call, bytes, numbers) {
         (Call::Coarsest, [sheet, start, turns, grid, names], []) => {
             let c = flow::coarsest(sheet, start, turns, grid, names)?;
@@ -64,7 +72,11 @@ pub fn expected(case: &Case) -> Outcome {
 }
 
 /// The independent program's call, on the numbers that the bytes carry.
-fn expected_answer(call: Call, bytes: &mut [Vec<u8>], numbers: &[u64]) -> Result<Vec<u64>, u8> {
+fn expected_answer(
+    call: Call,
+    bytes: &mut [Vec<u8>],
+    numbers: &[u64],
+) -> Result<Vec<u64>, Refusal> {
     match (call, bytes, numbers) {
         (Call::Coarsest, [sheet, start, turns, grid, names], []) => {
             let start = words(start);

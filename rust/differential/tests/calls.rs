@@ -48,7 +48,8 @@ mod guarded {
     use differential::case::Call;
     use differential::memory::{Guarded, Side};
 
-    const CASES: u64 = super::CASES / 10;
+    /// Enough for every refusal to come out.
+    const CASES: u64 = 5_000;
 
     #[test]
     fn nothing_before_a_buffer_is_touched() {

@@ -6,6 +6,7 @@ use differential::memory::{Heap, Slot, SLOTS};
 use differential::sides::{archive, expected};
 use reference::lts::Lts;
 use reference::prng::Prng;
+use reference::refusal::Refusal;
 use reference::{random, sheet};
 
 /// A sheet of two pages and the moves 0 -1-> 1, 0 -1-> 0 and 1 -2-> 1, with
@@ -14,22 +15,24 @@ const SOUND: [u8; 32] = [
     2, 0, 2, 0, 3, 0, 0, 0, 3, 0, 1, 0, 2, 0, 1, 0, 0, 0, 0, 0, 2, 0, 1, 0, 0, 0, 1, 0, 1, 0, 1, 0,
 ];
 
-/// The sheet above, and then the same with the damage that the refusals 1 to
-/// 6 are for, by number.
-fn sheets() -> [Vec<u8>; 7] {
+/// The sheet above, and then the same with the damage that each refusal of a
+/// sheet is for.
+fn sheets() -> [(Vec<u8>, Option<Refusal>); 8] {
     let with = |at: usize, byte: u8| {
         let mut sheet = SOUND.to_vec();
         sheet[at] = byte;
         sheet
     };
+    let refused = |number, record| Some(Refusal { number, record });
     [
-        SOUND.to_vec(),
-        SOUND[..31].to_vec(),
-        with(2, 65),
-        with(6, 2),
-        with(15, 1),
-        with(18, 3),
-        with(28, 0),
+        (SOUND.to_vec(), None),
+        (SOUND[..31].to_vec(), refused(1, 0)),
+        (with(2, 65), refused(2, 0)),
+        (with(6, 2), refused(3, 0)),
+        (with(15, 1), refused(4, 0)),
+        (with(12, 0), refused(5, 2)),
+        (with(18, 3), refused(16, 3)),
+        (with(28, 0), refused(6, 0)),
     ]
 }
 
@@ -54,16 +57,16 @@ fn outcome<S: Slot>(first: &[u8], second: &[u8], length: usize, slots: &mut [S; 
     outcome
 }
 
-/// Joins two sheets into buffers of every kind; `number` is the refusal that
-/// the sheets give, or 0.
-fn joins<S: Slot>(first: &[u8], second: &[u8], number: u8, slots: &mut [S; SLOTS]) {
+/// Joins two sheets into buffers of every kind; `refusal` is the one that the
+/// sheets give, if any.
+fn joins<S: Slot>(first: &[u8], second: &[u8], refusal: Option<Refusal>, slots: &mut [S; SLOTS]) {
     let right = first.len() + second.len() - sheet::HEADER;
     for length in [right, right + 1, right + 64, right - 1, 0] {
         let answer = outcome(first, second, length, slots).answer;
-        match number {
-            0 if length >= right => assert_eq!(answer, Ok(vec![right as u64])),
-            0 => assert_eq!(answer, Err(15)),
-            _ => assert_eq!(answer, Err(number)),
+        match refusal {
+            Some(refusal) => assert_eq!(answer, Err(refusal)),
+            None if length >= right => assert_eq!(answer, Ok(vec![right as u64])),
+            None => assert_eq!(answer, Err(Refusal::BUFFER)),
         }
     }
 }
@@ -71,26 +74,26 @@ fn joins<S: Slot>(first: &[u8], second: &[u8], number: u8, slots: &mut [S; SLOTS
 /// Every pair of sheets, and flows at and above the limits.
 fn joins_all<S: Slot>(slots: &mut [S; SLOTS]) {
     let sheets = sheets();
-    for (one, first) in sheets.iter().enumerate() {
-        for (two, second) in sheets.iter().enumerate() {
-            let number = if one > 0 { one } else { two };
-            joins(first, second, number as u8, slots);
+    for (first, one) in &sheets {
+        for (second, two) in &sheets {
+            joins(first, second, one.or(*two), slots);
         }
     }
+    let large = Some(Refusal::JOIN);
     let mut rng = Prng::new(7_000_000);
     for first in [1, 2, 100, 128, 255] {
-        for (second, number) in [(256 - first, 0), (257 - first, 7), (256, 7)] {
+        for (second, refusal) in [(256 - first, None), (257 - first, large), (256, large)] {
             let sheets = [first, second].map(|n| sheet::write(&Lts::of(n, 0, &[])));
-            joins(&sheets[0], &sheets[1], number, slots);
+            joins(&sheets[0], &sheets[1], refusal, slots);
         }
     }
     for first in [1, 2, 512, 1023, 1024] {
-        for (second, number) in [(1024 - first, 0), (1025 - first, 7)] {
+        for (second, refusal) in [(1024 - first, None), (1025 - first, large)] {
             let sheets = [first, second].map(|k| {
                 let lts = random::lts_exact(&mut rng, 24, 2, k, 20);
                 random::shuffled_sheet(&mut rng, &lts)
             });
-            joins(&sheets[0], &sheets[1], number, slots);
+            joins(&sheets[0], &sheets[1], refusal, slots);
         }
     }
 }

@@ -2,6 +2,8 @@
 //! the independent program. It is taken from `FLOWCHECK`, or from where
 //! `rt check flowcheck` leaves it.
 
+mod faults;
+
 use differential::{damage, flows};
 use reference::lts::Lts;
 use reference::prng::Prng;
@@ -100,7 +102,7 @@ fn f1_to_f9() {
     );
     assert_eq!(printed(&f3_with(0, 0)), "refused 2\n");
     assert_eq!(printed(&[&F3[..], &[0]].concat()), "refused 1\n");
-    assert_eq!(printed(&f3_with(22, 1)), "refused 5\n");
+    assert_eq!(printed(&f3_with(22, 1)), "refused 16\n");
 }
 
 #[test]
@@ -116,6 +118,7 @@ fn each_refusal_of_a_sheet() {
         (f3_with(6, 2), 3),
         (f3_with(18, 2), 4),
         (f3_with(8, 0), 5),
+        (f3_with(12, 1), 16),
         (twice.to_vec(), 6),
     ];
     for (sheet, number) in sheets {
@@ -125,6 +128,16 @@ fn each_refusal_of_a_sheet() {
             "for {sheet:?}"
         );
         agrees(&sheet);
+    }
+}
+
+/// The number of the refusal alone, whatever the record.
+#[test]
+fn no_record_is_printed() {
+    for fault in faults::all() {
+        let text = format!("refused {}\n", fault.refusal.number);
+        assert_eq!(printed(&fault.sheet), text, "{}", fault.about);
+        agrees(&fault.sheet);
     }
 }
 

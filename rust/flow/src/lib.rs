@@ -22,6 +22,21 @@
 //! # Ok::<(), flow::Refusal>(())
 //! ```
 //!
+//! A sheet with a move record on no chain, or with one reached twice, is
+//! refused with the lowest such record's number:
+//!
+//! ```
+//! // The same pages, but the first record names itself as next.
+//! let sheet = [
+//!     3, 0, 1, 0, 2, 0, // three pages, one action, two moves
+//!     0, 0, 1, 0, 0, 0, 0, 0, 0, 0, 2, 0, // the pages
+//!     1, 0, 1, 0, 1, 0, 1, 0, 2, 0, 0, 0, // the moves
+//! ];
+//! let refusal = flow::end_start(&sheet, &mut [0; 24]).unwrap_err();
+//! assert_eq!(refusal, flow::Refusal::ReachedTwice { record: 1 });
+//! assert_eq!(refusal.to_string(), "refused 16: a record reached twice: record 1");
+//! ```
+//!
 //! # Panics
 //!
 //! The archive packs an answer into one number. A number that stands for no
@@ -75,7 +90,8 @@ pub struct Pair {
 /// Coarsest: makes turns by the turn list until nothing is pending, writes
 /// the kept pairs as a grid and each page's block name, two bytes a page.
 ///
-/// Refuses with 1 to 6, 8 to 10 and 15. A turn list's odd last byte is ignored.
+/// Refuses with 1 to 6 and 16 for the sheet, 8 to 10 for the start, then 15. A
+/// turn list's odd last byte is ignored.
 ///
 /// ```
 /// let f1 = [1, 0, 0, 0, 0, 0, 0, 0, 0, 0]; // one page, no moves
@@ -106,7 +122,7 @@ pub fn coarsest(
 /// Compare: joins two sheets and says whether page 0 of the second can follow
 /// page 0 of the first in everything, and the turns made.
 ///
-/// Refuses with 1 to 6 for the first sheet, then for the second, then 7.
+/// Refuses with 1 to 6 and 16 for the first sheet, then for the second, then 7.
 ///
 /// ```
 /// let f1 = [1, 0, 0, 0, 0, 0, 0, 0, 0, 0]; // one page, no moves
@@ -130,8 +146,8 @@ pub fn compare(first: &[u8], second: &[u8]) -> Result<Compared, Refusal> {
 /// number. Bytes past the sheet stay as they are; a buffer as long as both
 /// sheets together is long enough.
 ///
-/// Refuses with 1 to 6 for the first sheet, then for the second, then 7, and
-/// with 15 where the buffer is shorter than the sheet.
+/// Refuses with 1 to 6 and 16 for the first sheet, then for the second, then 7,
+/// and with 15 where the buffer is shorter than the sheet.
 ///
 /// ```
 /// let marked = [1, 0, 0, 0, 0, 0, 1, 0, 0, 0]; // one page with the end mark
@@ -153,7 +169,7 @@ pub fn join(first: &[u8], second: &[u8], out: &mut [u8]) -> Result<usize, Refusa
 /// Normalise: writes the sheet's normal form into a buffer of the sheet's own
 /// length.
 ///
-/// Refuses with 1 to 6 and 15.
+/// Refuses with 1 to 6 and 16 for the sheet, then 15.
 ///
 /// ```
 /// let f1 = [1, 0, 0, 0, 0, 0, 0, 0, 0, 0];
@@ -169,7 +185,7 @@ pub fn normalise(sheet: &[u8], out: &mut [u8]) -> Result<(), Refusal> {
 /// End start: writes the grid that holds (p, q) unless p has the end mark and
 /// q has not.
 ///
-/// Refuses with 1 to 6 and 15.
+/// Refuses with 1 to 6 and 16 for the sheet, then 15.
 ///
 /// ```
 /// let marked = [1, 0, 0, 0, 0, 0, 1, 0, 0, 0]; // one page with the end mark
@@ -184,7 +200,8 @@ pub fn end_start(sheet: &[u8], grid: &mut [u8]) -> Result<(), Refusal> {
 
 /// Test simulation: is the claimed grid a simulation inside the start?
 ///
-/// Refuses with 1 to 6, then 8 to 10 for the start, then 8 for the claim.
+/// Refuses with 1 to 6 and 16 for the sheet, then 8 to 10 for the start, then 8
+/// for the claim.
 ///
 /// ```
 /// let f1 = [1, 0, 0, 0, 0, 0, 0, 0, 0, 0];
@@ -203,7 +220,7 @@ pub fn test_simulation(sheet: &[u8], start: &[u8], claim: &[u8]) -> Result<bool,
 /// Check plan: accepts a non-empty plan of sound entries and gives its last
 /// pair. An entry is 8 bytes; bytes past the last whole one count for nothing.
 ///
-/// Refuses with 1 to 6, 8 to 10 and 14.
+/// Refuses with 1 to 6 and 16 for the sheet, 8 to 10 for the start, then 14.
 ///
 /// ```
 /// let f1 = [1, 0, 0, 0, 0, 0, 0, 0, 0, 0];
@@ -224,7 +241,8 @@ pub fn check_plan(sheet: &[u8], start: &[u8], plan: &[u8]) -> Result<Pair, Refus
 /// count of entries, 8 bytes each. Bytes past them stay as they are. At most
 /// n · n entries are needed.
 ///
-/// Refuses with 1 to 6, 8 to 11, 13 and 15.
+/// Refuses with 1 to 6 and 16 for the sheet, 8 to 10 for the start, then 11, 13
+/// and 15.
 ///
 /// ```
 /// let two = [2, 0, 0, 0, 0, 0, 0, 0, 0, 0, 0, 0, 0, 0]; // two pages, no moves
@@ -249,7 +267,8 @@ pub fn write_plan(
 
 /// Hand play: does the challenger win at (p, q) within the given rounds?
 ///
-/// Refuses with 1 to 6 and 8 to 12.
+/// Refuses with 1 to 6 and 16 for the sheet, 8 to 10 for the start, then 11 and
+/// 12.
 ///
 /// ```
 /// let f1 = [1, 0, 0, 0, 0, 0, 0, 0, 0, 0];

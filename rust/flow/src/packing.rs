@@ -1,5 +1,6 @@
 //! A result as the archive packs it: the low 8 bits are a refusal's number or
-//! 0, and above them stand the answer's numbers.
+//! 0. Above them stand the answer's numbers, or in bits 8 to 23 the number of
+//! the record that a refusal is about, 0 where it is about none.
 
 use crate::Refusal;
 
@@ -18,12 +19,14 @@ impl Packed {
             result,
             rest: result >> 8,
         };
-        match result & 0xff {
-            0 => Ok(packed),
-            number => match Refusal::from_number(number) {
-                Some(refusal) if packed.rest == 0 => Err(refusal),
-                _ => packed.impossible(),
-            },
+        let number = result as u8;
+        if number == 0 {
+            return Ok(packed);
+        }
+        let record = u16::try_from(packed.rest).ok();
+        match record.and_then(|record| Refusal::from_numbers(number, record)) {
+            Some(refusal) => Err(refusal),
+            None => packed.impossible(),
         }
     }
 
@@ -71,20 +74,53 @@ mod tests {
         packed.end(yes)
     }
 
+    /// A result that stands for no answer.
+    fn impossible(result: u64) {
+        let outcome = std::panic::catch_unwind(|| yes_of(result));
+        assert!(outcome.is_err(), "{result:#x}");
+    }
+
     #[test]
-    fn numbers_and_refusals() {
-        assert_eq!(yes_of(256), Ok(true));
+    fn answers() {
+        assert_eq!(yes_of(0x100), Ok(true));
         assert_eq!(yes_of(0), Ok(false));
-        for refusal in Refusal::ALL {
-            assert_eq!(yes_of(u64::from(refusal.number())), Err(refusal));
+        for result in [0x200, 0x1_0000, 0x1_0100, 1 << 63] {
+            impossible(result);
         }
     }
 
     #[test]
-    fn impossible_results_are_not_accepted() {
-        for result in [16, 255, 256 + 1, 512, 1 << 16, u64::MAX] {
-            let outcome = std::panic::catch_unwind(|| yes_of(result));
-            assert!(outcome.is_err(), "{result}");
+    fn refusals_about_no_record() {
+        for &number in Refusal::NUMBERS {
+            let result = u64::from(number);
+            if [5, 16].contains(&number) {
+                continue;
+            }
+            assert_eq!(yes_of(result).map_err(Refusal::number), Err(number));
+            for rest in [0x100, 0x700, 0x100_0000, 1 << 63] {
+                impossible(rest + result);
+            }
+        }
+        for number in [17, 255, u64::MAX] {
+            impossible(number);
+        }
+    }
+
+    #[test]
+    fn refusals_about_a_record() {
+        for record in [1, 2, 7, 255, 256, 257, 1_023, 1_024] {
+            let rest = u64::from(record) << 8;
+            assert_eq!(yes_of(rest + 5), Err(Refusal::Unreached { record }));
+            assert_eq!(yes_of(rest + 16), Err(Refusal::ReachedTwice { record }));
+            // Nothing stands above bit 23.
+            for above in [1 << 24, 1 << 32, 1 << 63] {
+                impossible(above + rest + 5);
+                impossible(above + rest + 16);
+            }
+        }
+        for record in [0, 1_025, 0xffff, 0x1_0000] {
+            impossible((record << 8) + 5);
+            impossible((record << 8) + 16);
         }
     }
 }

@@ -97,11 +97,45 @@ fn f7_to_f9_leave_the_buffer() {
     for (sheet, refusal) in [
         (no_pages, Refusal::Counts),
         (longer, Refusal::Length),
-        (itself, Refusal::Chain),
+        (itself, Refusal::ReachedTwice { record: 1 }),
     ] {
         let mut out = vec![0xa5; sheet.len()];
         assert_eq!(flow::normalise(&sheet, &mut out), Err(refusal));
         assert!(out.iter().all(|&byte| byte == 0xa5));
+    }
+}
+
+/// A sheet of two pages and three move records with these first and next
+/// indices.
+fn chained(firsts: [u8; 2], nexts: [u8; 3]) -> [u8; 32] {
+    let [f0, f1] = firsts;
+    let [n1, n2, n3] = nexts;
+    [
+        2, 0, 3, 0, 3, 0, 0, 0, f0, 0, 0, 0, f1, 0, // the counts, the pages
+        1, 0, 0, 0, n1, 0, 2, 0, 0, 0, n2, 0, 3, 0, 0, 0, n3, 0, // the records
+    ]
+}
+
+#[test]
+fn a_fault_in_the_chains_has_its_record() {
+    let unreached = |record| Err(Refusal::Unreached { record });
+    let twice = |record| Err(Refusal::ReachedTwice { record });
+    for (firsts, nexts, answer) in [
+        ([1, 0], [2, 3, 0], Ok(())),
+        ([1, 0], [2, 0, 0], unreached(3)),
+        ([1, 0], [0, 3, 2], unreached(2)),
+        ([0, 0], [0, 0, 0], unreached(1)),
+        ([3, 3], [2, 0, 1], twice(3)),
+        ([1, 2], [2, 3, 0], twice(2)),
+        ([1, 0], [2, 3, 3], twice(3)),
+        ([3, 3], [2, 0, 0], unreached(1)),
+        ([1, 1], [2, 0, 0], unreached(3)),
+    ] {
+        let sheet = chained(firsts, nexts);
+        assert_eq!(flow::normalise(&sheet, &mut [0; 32]), answer);
+        assert_eq!(end_start(&sheet).map(|_| ()), answer);
+        assert_eq!(flow::compare(&F3, &sheet).map(|_| ()), answer);
+        assert_eq!(flow::compare(&sheet, &F3).map(|_| ()), answer);
     }
 }
 
@@ -116,17 +150,4 @@ fn comparing() {
     assert_eq!(flow::compare(&F3[..5], &one), Err(Refusal::Length));
     let large = sheet::write(&Lts::of(255, 0, &[]));
     assert_eq!(flow::compare(&one, &large), Err(Refusal::Joined));
-}
-
-#[test]
-fn refusals_have_their_numbers() {
-    for (at, refusal) in Refusal::ALL.into_iter().enumerate() {
-        assert_eq!(usize::from(refusal.number()), at + 1);
-        assert_eq!(Refusal::from_number(at as u64 + 1), Some(refusal));
-        assert!(refusal
-            .to_string()
-            .starts_with(&format!("refused {}: ", at + 1)));
-    }
-    assert_eq!(Refusal::from_number(0), None);
-    assert_eq!(Refusal::from_number(16), None);
 }

@@ -30,7 +30,7 @@ pub fn join(first: &Lts, second: &Lts) -> Result<Lts, Refusal> {
 
 /// Compare: does page 0 of the second flow simulate page 0 of the first, and
 /// in how many turns is that found?
-pub fn compare(first: &[u8], second: &[u8]) -> Result<(bool, usize), u8> {
+pub fn compare(first: &[u8], second: &[u8]) -> Result<(bool, usize), Refusal> {
     let first = sheet::read(first)?;
     let second = sheet::read(second)?;
     let joined = join(&first, &second)?;

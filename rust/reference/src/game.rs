@@ -59,15 +59,21 @@ impl<'a> Game<'a> {
 }
 
 /// Hand play: does the challenger win at (p, q) with the given rounds?
-pub fn hand_play(sheet: &[u8], start: &[u64], p: u16, q: u16, rounds: u16) -> Result<bool, u8> {
+pub fn hand_play(
+    sheet: &[u8],
+    start: &[u64],
+    p: u16,
+    q: u16,
+    rounds: u16,
+) -> Result<bool, Refusal> {
     let lts = sheet::read(sheet)?;
     let start = grid::read_start(start, lts.states())?;
     let (p, q, rounds) = (usize::from(p), usize::from(q), usize::from(rounds));
     if p >= lts.states() || q >= lts.states() {
-        return Err(Refusal::PAGE_ARGUMENT.0);
+        return Err(Refusal::PAGE_ARGUMENT);
     }
     if rounds > MOST_ROUNDS {
-        return Err(Refusal::ROUNDS.0);
+        return Err(Refusal::ROUNDS);
     }
     Ok(Game::new(&lts, &start, rounds).challenger_wins(p, q, rounds))
 }

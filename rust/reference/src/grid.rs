@@ -66,17 +66,17 @@ pub fn is_simulation(lts: &Lts, relation: &Relation) -> bool {
 
 /// End start: writes the end start of the sheet's flow into the grid. A
 /// refusal leaves the grid as it is.
-pub fn end_start(sheet: &[u8], grid: &mut [u64]) -> Result<(), u8> {
+pub fn end_start(sheet: &[u8], grid: &mut [u64]) -> Result<(), Refusal> {
     let lts = sheet::read(sheet)?;
     if grid.len() != length(lts.states()) {
-        return Err(Refusal::BUFFER.0);
+        return Err(Refusal::BUFFER);
     }
     grid.copy_from_slice(&write(end_start_of(&lts).relation()));
     Ok(())
 }
 
 /// Test simulation: is the claimed grid a simulation inside the start?
-pub fn test_simulation(sheet: &[u8], start: &[u64], claim: &[u64]) -> Result<bool, u8> {
+pub fn test_simulation(sheet: &[u8], start: &[u64], claim: &[u64]) -> Result<bool, Refusal> {
     let lts = sheet::read(sheet)?;
     let start = read_start(start, lts.states())?;
     let claim = read(claim, lts.states())?;

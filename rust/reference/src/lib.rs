@@ -1,10 +1,12 @@
 //! Independent reference for the flow comparer.
 //!
-//! Written only from document 01 (the scope: sheets, grids, turns, plans) and
-//! from document 004 (the base algorithm). It aims at being plainly right
-//! rather than fast. Names: a page is a [`lts::State`], a move is a
-//! [`lts::Transition`], a turn list is a schedule, the name of a block is its
-//! representative, and a plan is a [`plans::Strategy`] made of [`plans::Entry`].
+//! Written only from document 01 (the scope: sheets, grids, turns, plans), from
+//! request L1 of document 02 (which record is off its chain) and from document
+//! 004 (the base algorithm). It aims at being plainly right rather than fast.
+//! Names: a page is a [`lts::State`], a move is a [`lts::Transition`], a turn
+//! list is a schedule, the name of a block is its representative, and a plan is
+//! a [`plans::Strategy`] made of [`plans::Entry`]. A call gives its result or a
+//! [`refusal::Refusal`], which has a refusal number and a record number.
 //!
 //! The calls of document 01:
 //!
@@ -22,6 +24,7 @@
 //! | the program flowcheck | [`report::flowcheck`] |
 
 pub mod base;
+pub mod chain_faults;
 pub mod compare;
 pub mod fixpoint;
 pub mod game;

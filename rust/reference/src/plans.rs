@@ -161,12 +161,12 @@ fn beating_move(lts: &Lts, w: &Relation, p: State, q: State) -> Option<(Action, 
 }
 
 /// Check plan: the last pair of a non-empty list of sound entries.
-pub fn check_plan(sheet: &[u8], start: &[u64], plan: &[u16]) -> Result<(u16, u16), u8> {
+pub fn check_plan(sheet: &[u8], start: &[u64], plan: &[u16]) -> Result<(u16, u16), Refusal> {
     let lts = sheet::read(sheet)?;
     let start = grid::read_start(start, lts.states())?;
     let strategy = Strategy::read(plan);
     if !strategy.is_accepted(&lts, &start) {
-        return Err(Refusal::UNSOUND.0);
+        return Err(Refusal::UNSOUND);
     }
     let last = strategy.entries[strategy.entries.len() - 1];
     Ok((last.p, last.q))
@@ -180,19 +180,19 @@ pub fn write_plan(
     p: u16,
     q: u16,
     plan: &mut [u16],
-) -> Result<usize, u8> {
+) -> Result<usize, Refusal> {
     let lts = sheet::read(sheet)?;
     let start = grid::read_start(start, lts.states())?;
     let (p, q) = (usize::from(p), usize::from(q));
     if p >= lts.states() || q >= lts.states() {
-        return Err(Refusal::PAGE_ARGUMENT.0);
+        return Err(Refusal::PAGE_ARGUMENT);
     }
     let strategy = Rounds::of(&lts, &start)
         .strategy(&lts, p, q)
         .ok_or(Refusal::KEPT_PAIR)?;
     let count = strategy.entries.len();
     if plan.len() / ENTRY_NUMBERS < count {
-        return Err(Refusal::BUFFER.0);
+        return Err(Refusal::BUFFER);
     }
     plan[..ENTRY_NUMBERS * count].copy_from_slice(&strategy.numbers());
     Ok(count)

@@ -1,44 +1,57 @@
-//! The numbers that a call gives instead of a result.
+//! What a call gives instead of a result.
 
-/// A refusal, holding its number from the table of document 01.
+/// A refusal: its number from the table of document 01, and the number of the
+/// move record that it is about, 0 for none.
 #[derive(Clone, Copy, PartialEq, Eq, Debug)]
-pub struct Refusal(pub u8);
+pub struct Refusal {
+    /// The number of the refusal.
+    pub number: u8,
+    /// The record, from 1 to k; 0 for a refusal that names none.
+    pub record: u16,
+}
 
 impl Refusal {
     /// Under 6 bytes, or another length than the counts say.
-    pub const LENGTH: Refusal = Refusal(1);
+    pub const LENGTH: Refusal = Refusal::numbered(1);
     /// A count in the header is outside its range.
-    pub const RANGE: Refusal = Refusal(2);
+    pub const RANGE: Refusal = Refusal::numbered(2);
     /// A page record breaks a rule.
-    pub const PAGE_RECORD: Refusal = Refusal(3);
+    pub const PAGE_RECORD: Refusal = Refusal::numbered(3);
     /// A move record breaks a rule.
-    pub const MOVE_RECORD: Refusal = Refusal(4);
-    /// A move record lies on no chain or is reached twice.
-    pub const CHAIN: Refusal = Refusal(5);
+    pub const MOVE_RECORD: Refusal = Refusal::numbered(4);
     /// The same action and target twice in one chain.
-    pub const TWICE: Refusal = Refusal(6);
+    pub const TWICE: Refusal = Refusal::numbered(6);
     /// The joined flow is too large.
-    pub const JOIN: Refusal = Refusal(7);
+    pub const JOIN: Refusal = Refusal::numbered(7);
     /// A grid that is read has a wrong length or a stray bit.
-    pub const GRID: Refusal = Refusal(8);
+    pub const GRID: Refusal = Refusal::numbered(8);
     /// The start is not reflexive.
-    pub const NOT_REFLEXIVE: Refusal = Refusal(9);
+    pub const NOT_REFLEXIVE: Refusal = Refusal::numbered(9);
     /// The start is not transitive.
-    pub const NOT_TRANSITIVE: Refusal = Refusal(10);
+    pub const NOT_TRANSITIVE: Refusal = Refusal::numbered(10);
     /// A page argument is not below n.
-    pub const PAGE_ARGUMENT: Refusal = Refusal(11);
+    pub const PAGE_ARGUMENT: Refusal = Refusal::numbered(11);
     /// Hand play above 6 rounds.
-    pub const ROUNDS: Refusal = Refusal(12);
+    pub const ROUNDS: Refusal = Refusal::numbered(12);
     /// A plan is wanted for a kept pair.
-    pub const KEPT_PAIR: Refusal = Refusal(13);
+    pub const KEPT_PAIR: Refusal = Refusal::numbered(13);
     /// The plan is empty or has an unsound entry.
-    pub const UNSOUND: Refusal = Refusal(14);
+    pub const UNSOUND: Refusal = Refusal::numbered(14);
     /// A result buffer has a wrong length.
-    pub const BUFFER: Refusal = Refusal(15);
-}
+    pub const BUFFER: Refusal = Refusal::numbered(15);
 
-impl From<Refusal> for u8 {
-    fn from(refusal: Refusal) -> u8 {
-        refusal.0
+    /// The refusal of this number that names no record.
+    pub const fn numbered(number: u8) -> Refusal {
+        Refusal { number, record: 0 }
+    }
+
+    /// 5: the lowest move record that lies on no chain.
+    pub const fn unreached(record: u16) -> Refusal {
+        Refusal { number: 5, record }
+    }
+
+    /// 16: the lowest move record that two first or next indices name.
+    pub const fn reached_twice(record: u16) -> Refusal {
+        Refusal { number: 16, record }
     }
 }

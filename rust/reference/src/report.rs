@@ -12,7 +12,7 @@ pub fn flowcheck(input: &[u8]) -> String {
     let bytes = &input[..input.len().min(MOST_BYTES)];
     let lts = match sheet::read(bytes) {
         Ok(lts) => lts,
-        Err(number) => return format!("refused {number}\n"),
+        Err(refusal) => return format!("refused {}\n", refusal.number),
     };
     let outcome = turns::run(&lts, &grid::end_start_of(&lts), &[]);
     let kept = &outcome.kept;

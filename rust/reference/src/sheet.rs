@@ -2,6 +2,7 @@
 
 use crate::lts::{Lts, Transition};
 use crate::refusal::Refusal;
+use std::iter::successors;
 
 /// Bytes of the header.
 pub const HEADER: usize = 6;
@@ -43,12 +44,17 @@ struct MoveRecord {
     next: usize,
 }
 
-/// Reads a sheet; the number of the refusal if it is not readable.
-pub fn read(bytes: &[u8]) -> Result<Lts, u8> {
+/// Reads a sheet; the refusal if it is not readable.
+pub fn read(bytes: &[u8]) -> Result<Lts, Refusal> {
     let header = read_header(bytes)?;
     let pages = read_pages(bytes, &header)?;
     let records = read_records(bytes, &header)?;
-    let chains = walk_chains(&pages, &records)?;
+    let chains: Vec<Vec<usize>> = pages
+        .iter()
+        .map(|page| chain_from(page.first, &records))
+        .collect();
+    refuse_unreached(&chains, &records)?;
+    refuse_reached_twice(&pages, &records)?;
     refuse_repeats(&chains, &records)?;
     let end_marks = pages.iter().map(|page| page.mark == 1).collect();
     let mut transitions = Vec::new();
@@ -94,10 +100,10 @@ pub fn write(lts: &Lts) -> Vec<u8> {
 
 /// Normalise: writes the normal form of the sheet into a buffer of the
 /// sheet's own length. A refusal leaves the buffer as it is.
-pub fn normalise(sheet: &[u8], out: &mut [u8]) -> Result<(), u8> {
+pub fn normalise(sheet: &[u8], out: &mut [u8]) -> Result<(), Refusal> {
     let lts = read(sheet)?;
     if out.len() != sheet.len() {
-        return Err(Refusal::BUFFER.0);
+        return Err(Refusal::BUFFER);
     }
     out.copy_from_slice(&write(&lts));
     Ok(())
@@ -171,28 +177,40 @@ fn read_records(bytes: &[u8], header: &Header) -> Result<Vec<MoveRecord>, Refusa
     Ok(records)
 }
 
-/// The chain of each page, as record numbers. Refused if a record is reached
-/// a second time (by any chain) or if one is never reached.
-fn walk_chains(pages: &[PageRecord], records: &[MoveRecord]) -> Result<Vec<Vec<usize>>, Refusal> {
-    let mut reached = vec![false; records.len()];
-    let mut chains = Vec::new();
-    for page in pages {
-        let mut chain = Vec::new();
-        let mut index = page.first;
-        while index != 0 {
-            if reached[index - 1] {
-                return Err(Refusal::CHAIN);
-            }
-            reached[index - 1] = true;
-            chain.push(index);
-            index = records[index - 1].next;
-        }
-        chains.push(chain);
+/// The records of the chain that begins at an index, by number. A chain that
+/// goes round has, after as many steps as there are records, been at each
+/// record that it ever comes to, and is cut there.
+fn chain_from(first: usize, records: &[MoveRecord]) -> Vec<usize> {
+    let named = |index: usize| if index == 0 { None } else { Some(index) };
+    successors(named(first), |&index| named(records[index - 1].next))
+        .take(records.len())
+        .collect()
+}
+
+/// Refuses the lowest record that no chain holds.
+fn refuse_unreached(chains: &[Vec<usize>], records: &[MoveRecord]) -> Result<(), Refusal> {
+    let mut held = vec![false; records.len() + 1];
+    for &index in chains.iter().flatten() {
+        held[index] = true;
     }
-    if reached.iter().all(|&r| r) {
-        Ok(chains)
-    } else {
-        Err(Refusal::CHAIN)
+    match (1..=records.len()).find(|&index| !held[index]) {
+        Some(index) => Err(Refusal::unreached(index as u16)),
+        None => Ok(()),
+    }
+}
+
+/// Refuses the lowest record that two or more indices name, out of the first
+/// indices of all pages and the next indices of all records.
+fn refuse_reached_twice(pages: &[PageRecord], records: &[MoveRecord]) -> Result<(), Refusal> {
+    let firsts = pages.iter().map(|page| page.first);
+    let nexts = records.iter().map(|record| record.next);
+    let mut times_named = vec![0; records.len() + 1];
+    for index in firsts.chain(nexts) {
+        times_named[index] += 1;
+    }
+    match (1..=records.len()).find(|&index| times_named[index] > 1) {
+        Some(index) => Err(Refusal::reached_twice(index as u16)),
+        None => Ok(()),
     }
 }
 

@@ -148,12 +148,12 @@ pub fn coarsest(
     turn_list: &[u16],
     grid: &mut [u64],
     names: &mut [u16],
-) -> Result<(usize, usize, usize), u8> {
+) -> Result<(usize, usize, usize), Refusal> {
     let lts = sheet::read(sheet)?;
     let n = lts.states();
     let start = grid::read_start(start, n)?;
     if grid.len() != grid::length(n) || names.len() != n {
-        return Err(Refusal::BUFFER.0);
+        return Err(Refusal::BUFFER);
     }
     let outcome = run(&lts, &start, turn_list);
     grid.copy_from_slice(&grid::write(&outcome.kept));

@@ -22,14 +22,20 @@ pub fn line(found: &Result<Verdict, String>) -> String {
             ("result", string("refused")),
             ("number", refusal.number().to_string()),
             (
-                "sheet",
-                sheet.map_or("null".to_string(), |sheet| string(&sheet.to_string())),
+                "record",
+                or_null(refusal.record(), |record| record.to_string()),
             ),
-            ("sentence", string(refusal.sentence())),
+            ("sheet", or_null(*sheet, |sheet| string(&sheet.to_string()))),
+            ("sentence", string(&refusal.sentence())),
         ],
         Err(message) => vec![("result", string("error")), ("message", string(message))],
     };
     object(&fields) + "\n"
+}
+
+/// A value that may be missing.
+fn or_null<T>(value: Option<T>, written: impl Fn(T) -> String) -> String {
+    value.map_or("null".to_string(), written)
 }
 
 /// A step with its number.

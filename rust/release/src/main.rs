@@ -12,9 +12,10 @@
 //! | 2 | `refused` and a number | a sheet is refused |
 //! | 2 | none; one line on standard error | bad usage, a file that cannot be read, an output that cannot be written, an internal failure |
 //!
-//! With `--entries` the plan's bare entries stand in the place of the story,
-//! with the page numbers of the joined flow. With `--json` the same content
-//! is one JSON object on one line, a failure's line too.
+//! A refusal's line has its sentence, the record that it is about, if any, and
+//! the sheet. With `--entries` the plan's bare entries stand in the place of
+//! the story, with the page numbers of the joined flow. With `--json` the same
+//! content is one JSON object on one line, a failure's line too.
 
 #![deny(unsafe_code)]
 

@@ -244,6 +244,32 @@ fn refusals_name_their_sheet() {
     assert_eq!(judge(&good, &large, false), refused(Refusal::Joined, None));
 }
 
+/// Where both sheets have such a record, the first's is told.
+#[test]
+fn refusals_name_their_record() {
+    let good = sheet::write(&Lts::of(2, 1, &[(0, 1, 0), (0, 1, 1), (1, 1, 0)]));
+    let with = |at: usize, byte: u8| {
+        let mut sheet = good.clone();
+        sheet[at] = byte;
+        sheet
+    };
+    let told = |site: &[u8], rules: &[u8]| text::lines(&judge(site, rules, false).unwrap());
+    let (second, third) = (with(18, 0), with(12, 0));
+    let (twice, both) = (with(30, 2), with(12, 2));
+    let lone = |record: u8, sheet: &str| {
+        format!("refused 5: a record on no chain: record {record} ({sheet} sheet)\n")
+    };
+    assert_eq!(told(&second, &third), lone(2, "first"));
+    assert_eq!(told(&third, &second), lone(3, "first"));
+    assert_eq!(told(&good, &second), lone(2, "second"));
+    assert_eq!(told(&good, &third), lone(3, "second"));
+    assert_eq!(
+        told(&twice, &both),
+        "refused 16: a record reached twice: record 2 (first sheet)\n"
+    );
+    assert_eq!(told(&both, &twice), lone(3, "first"));
+}
+
 /// What the proved calls would not give is a failure, and no story.
 #[test]
 fn disagreement_is_a_failure() {

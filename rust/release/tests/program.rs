@@ -6,6 +6,7 @@ use differential::{damage, flows};
 use json::Json;
 use reference::lts::Lts;
 use reference::prng::Prng;
+use reference::refusal::Refusal;
 use reference::{compare, random, sheet};
 use std::ffi::OsStr;
 use std::fs;
@@ -17,17 +18,6 @@ const PAIRS: u64 = 300;
 
 /// The example's sheets and the page that tells of them.
 const EXAMPLES: &str = concat!(env!("CARGO_MANIFEST_DIR"), "/../../examples");
-
-/// What document 01's table says of the refusals 1 to 7.
-const SENTENCES: [&str; 7] = [
-    "under 6 bytes, or another length than the counts say",
-    "n, m or k outside its range",
-    "a page record: mark, spare byte or index",
-    "a move record: action, spare byte, target or next index",
-    "a record on no chain, or reached twice",
-    "an action and target twice in one chain",
-    "joined flow above 256 pages or 1,024 moves",
-];
 
 /// The program with these words.
 fn program<W: AsRef<OsStr>>(words: &[W]) -> Command {
@@ -105,24 +95,103 @@ fn twice_and_once() -> [Vec<u8>; 2] {
     [sheet::write(&site), sheet::write(&rules)]
 }
 
-/// A sheet that is refused by each number from 1 to 6, by number, and the
-/// sheet that they are made of.
-fn refused_sheets() -> ([Vec<u8>; 6], Vec<u8>) {
-    let good = sheet::write(&Lts::of(2, 2, &[(0, 1, 1), (0, 2, 1), (1, 1, 0)]));
+/// A refusal: its number, the record that it is about, and its sentence, which
+/// is document 01's, or document 02's for 5 and 16.
+#[derive(Clone, Copy)]
+struct Refused {
+    number: usize,
+    record: Option<u64>,
+    sentence: &'static str,
+}
+
+impl Refused {
+    const LENGTH: Refused = Refused {
+        number: 1,
+        record: None,
+        sentence: "under 6 bytes, or another length than the counts say",
+    };
+    const COUNTS: Refused = Refused {
+        number: 2,
+        record: None,
+        sentence: "n, m or k outside its range",
+    };
+    const JOINED: Refused = Refused {
+        number: 7,
+        record: None,
+        sentence: "joined flow above 256 pages or 1,024 moves",
+    };
+
+    /// The line about one of the sheets, or about both.
+    fn line(self, sheet: Option<&str>) -> String {
+        let about = sheet.map_or(String::new(), |sheet| format!(" ({sheet} sheet)"));
+        format!("refused {}: {}{about}\n", self.number, self.sentence)
+    }
+
+    /// Is the object about it, and about the sheet?
+    fn is(self, object: &Json, sheet: Option<&str>) {
+        let names = ["result", "number", "record", "sheet", "sentence"];
+        assert_eq!(object.names(), names);
+        assert_eq!(object.field("result").string(), "refused");
+        assert_eq!(object.field("number").number(), self.number);
+        let record = self.record.map_or(Json::Null, Json::Number);
+        assert_eq!(object.field("record"), &record);
+        let sheet = sheet.map_or(Json::Null, |sheet| Json::String(sheet.to_string()));
+        assert_eq!(object.field("sheet"), &sheet);
+        assert_eq!(object.field("sentence").string(), self.sentence);
+    }
+}
+
+/// A readable sheet.
+fn good_sheet() -> Vec<u8> {
+    sheet::write(&Lts::of(2, 2, &[(0, 1, 1), (0, 2, 1), (1, 1, 0)]))
+}
+
+/// The sheet above with the damage that each refusal of a sheet is for, those
+/// about a record with several.
+fn refused_sheets() -> Vec<(Vec<u8>, Refused)> {
+    let good = good_sheet();
     let with = |at: usize, byte: u8| {
         let mut sheet = good.clone();
         sheet[at] = byte;
         sheet
     };
-    let sheets = [
-        good[..31].to_vec(),
-        with(0, 0),
-        with(6, 2),
-        with(15, 1),
-        with(8, 0),
-        with(20, 1),
-    ];
-    (sheets, good)
+    let refused = |number, record, sentence| Refused {
+        number,
+        record,
+        sentence,
+    };
+    let page = "a page record: mark, spare byte or index";
+    let record = "a move record: action, spare byte, target or next index";
+    vec![
+        (good[..31].to_vec(), Refused::LENGTH),
+        (with(0, 0), Refused::COUNTS),
+        (with(6, 2), refused(3, None, page)),
+        (with(15, 1), refused(4, None, record)),
+        (
+            with(8, 0),
+            refused(5, Some(1), "a record on no chain: record 1"),
+        ),
+        (
+            with(18, 0),
+            refused(5, Some(2), "a record on no chain: record 2"),
+        ),
+        (
+            with(18, 3),
+            refused(5, Some(2), "a record on no chain: record 2"),
+        ),
+        (
+            with(24, 1),
+            refused(16, Some(1), "a record reached twice: record 1"),
+        ),
+        (
+            with(30, 3),
+            refused(16, Some(3), "a record reached twice: record 3"),
+        ),
+        (
+            with(20, 1),
+            refused(6, None, "an action and target twice in one chain"),
+        ),
+    ]
 }
 
 #[test]
@@ -174,51 +243,59 @@ fn closed() {
 #[test]
 fn each_refusal() {
     let folder = Folder::new("refusals");
-    let refused = |site: &[u8], rules: &[u8], number: usize, sheet: Option<&str>| {
-        let sentence = SENTENCES[number - 1];
-        let about = sheet.map_or(String::new(), |sheet| format!(" ({sheet} sheet)"));
-        let line = format!("refused {number}: {sentence}{about}\n");
+    let refused = |site: &[u8], rules: &[u8], refusal: Refused, sheet: Option<&str>| {
+        let line = refusal.line(sheet);
         folder.run(&[], site, rules).is(2, &line);
         folder.run(&["--entries"], site, rules).is(2, &line);
         let run = folder.run(&["--json"], site, rules);
         assert_eq!((run.status, run.errors.as_str()), (2, ""));
-        let object = Json::read(&run.out);
-        assert_eq!(object.names(), ["result", "number", "sheet", "sentence"]);
-        assert_eq!(object.field("result").string(), "refused");
-        assert_eq!(object.field("number").number(), number);
-        assert_eq!(object.field("sentence").string(), sentence);
-        let sheet = sheet.map_or(Json::Null, |sheet| Json::String(sheet.to_string()));
-        assert_eq!(object.field("sheet"), &sheet);
+        refusal.is(&Json::read(&run.out), sheet);
     };
-    let (sheets, good) = refused_sheets();
-    for (number, bad) in (1..).zip(&sheets) {
-        refused(bad, &good, number, Some("first"));
-        refused(&good, bad, number, Some("second"));
-        for other in &sheets {
-            refused(bad, other, number, Some("first"));
+    let (sheets, good) = (refused_sheets(), good_sheet());
+    for (bad, refusal) in &sheets {
+        refused(bad, &good, *refusal, Some("first"));
+        refused(&good, bad, *refusal, Some("second"));
+        for (other, _) in &sheets {
+            refused(bad, other, *refusal, Some("first"));
         }
     }
-    refused(&[], &good, 1, Some("first"));
-    refused(&good, &[], 1, Some("second"));
+    refused(&[], &good, Refused::LENGTH, Some("first"));
+    refused(&good, &[], Refused::LENGTH, Some("second"));
     let large = sheet::write(&Lts::of(255, 0, &[]));
-    refused(&good, &large, 7, None);
-    refused(&large, &good, 7, None);
+    refused(&good, &large, Refused::JOINED, None);
+    refused(&large, &good, Refused::JOINED, None);
+}
+
+/// The whole object of a refusal, with a record and without.
+#[test]
+fn the_object_of_a_refusal() {
+    let folder = Folder::new("refusal");
+    let good = good_sheet();
+    let (mut lone, mut marked) = (good.clone(), good.clone());
+    (lone[12], marked[6]) = (0, 2);
+    folder.run(&["--json"], &good, &lone).is(
+        2,
+        "{\"result\":\"refused\",\"number\":5,\"record\":3,\"sheet\":\"second\",\
+        \"sentence\":\"a record on no chain: record 3\"}\n",
+    );
+    folder.run(&["--json"], &marked, &lone).is(
+        2,
+        "{\"result\":\"refused\",\"number\":3,\"record\":null,\"sheet\":\"first\",\
+        \"sentence\":\"a page record: mark, spare byte or index\"}\n",
+    );
 }
 
 /// A file that is longer than any sheet is refused as its whole would be.
 #[test]
 fn a_file_above_the_longest_sheet() {
     let folder = Folder::new("long");
-    let (_, good) = refused_sheets();
-    for (first, number) in [(1, 1), (0, 2)] {
+    for (first, refusal) in [(1, Refused::LENGTH), (0, Refused::COUNTS)] {
         let mut long = vec![0; 100_000];
         long[0] = first;
-        assert_eq!(sheet::read(&long), Err(number as u8));
-        let line = format!(
-            "refused {number}: {} (second sheet)\n",
-            SENTENCES[number - 1]
-        );
-        folder.run(&[], &good, &long).is(2, &line);
+        let number = sheet::read(&long).unwrap_err().number;
+        assert_eq!(usize::from(number), refusal.number);
+        let line = refusal.line(Some("second"));
+        folder.run(&[], &good_sheet(), &long).is(2, &line);
     }
 }
 
@@ -331,10 +408,20 @@ fn pairs_of_all_kinds() {
 fn agree(sheets: &[Vec<u8>; 2], text: &Run, object: &Json) {
     let result = object.field("result").string();
     match compare::compare(&sheets[0], &sheets[1]) {
-        Err(number) => {
+        Err(Refusal { number, record }) => {
             assert_eq!((text.status, result), (2, "refused"));
             assert!(text.out.starts_with(&format!("refused {number}: ")));
             assert_eq!(object.field("number").number(), usize::from(number));
+            let told = text.out.contains(&format!(": record {record} ("));
+            let field = match object.field("record") {
+                Json::Null => 0,
+                record => record.number(),
+            };
+            assert_eq!(
+                (field, told),
+                (usize::from(record), record != 0),
+                "{text:?}"
+            );
         }
         Ok((yes, turns)) => {
             assert_eq!(text.status, i32::from(!yes));
@@ -397,17 +484,26 @@ fn the_example() {
         (4, 3, 0),
         (5, 5, 3),
     ];
-    let site = marked(4, Lts::of(5, 4, &site));
-    let rules = marked(6, Lts::of(7, 5, &rules));
-    assert_eq!(read("site.sheet"), sheet::write(&site));
-    assert_eq!(read("rules.sheet"), sheet::write(&rules));
+    let site = sheet::write(&marked(4, Lts::of(5, 4, &site)));
+    let rules = sheet::write(&marked(6, Lts::of(7, 5, &rules)));
+    assert_eq!(read("site.sheet"), site);
+    assert_eq!(read("rules.sheet"), rules);
+    // Record 3 names record 4 in the site's sheet, and none in the draft.
+    let next = sheet::length(5, 3) - 2;
+    assert_eq!(site[next..next + 2], [4, 0]);
+    let draft = [&site[..next], &[0, 0], &site[next + 2..]].concat();
+    assert_eq!(read("draft.sheet"), draft);
+    shown(&["site.sheet", "rules.sheet"], 1);
+    shown(&["draft.sheet", "rules.sheet"], 2);
+    shown(&["--json", "draft.sheet", "rules.sheet"], 2);
+}
+
+/// Ends with this status, and prints what the examples' page shows.
+fn shown(words: &[&str], status: i32) {
     let folder = Folder(PathBuf::from(EXAMPLES));
-    let run = folder.on(&["site.sheet", "rules.sheet"]);
-    assert_eq!((run.status, run.errors.as_str()), (1, ""));
-    let page = String::from_utf8(read("README.md")).unwrap();
-    assert!(
-        page.contains(&format!("```\n{}```\n", run.out)),
-        "{}",
-        run.out
-    );
+    let run = folder.on(words);
+    assert_eq!((run.status, run.errors.as_str()), (status, ""));
+    let page = fs::read_to_string(folder.0.join("README.md")).unwrap();
+    let block = format!("```\n{}```\n", run.out);
+    assert!(page.contains(&block), "{}", run.out);
 }

@@ -6,7 +6,7 @@ use Rattle.inputs.proofs.read_inputs.Statement.{statement}
 use Rattle.inputs.proofs.read_inputs.Tie as tie
 use Rattle.inputs.proofs.read_inputs.Reads as reads
 use Rattle.inputs.proofs.read_inputs.Lts as lts
-use Rattle.encoding.proofs.read_encoding.Reads as read-encoding-reads
+use Rattle.reader.proofs.read_encoding.Reads as read-encoding-reads
 use Rattle.inputs.proofs.with_start.Reads as with-start-reads
 
 -- src/lib.rt:26:9

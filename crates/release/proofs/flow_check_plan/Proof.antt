@@ -27,8 +27,8 @@ check-bytes-requires c κs = search needs
 enum-known-answer : tie.Need-enum-known-answer
 enum-known-answer c = search needs
 
-refusal-number-requires : tie.Need-refusal-number-requires
-refusal-number-requires c κs = search needs
+pack-refused-requires : tie.Need-pack-refused-requires
+pack-refused-requires c κs = search needs
 
 enum-known-answer-2 : tie.Need-enum-known-answer-2
 enum-known-answer-2 c = search needs
@@ -51,7 +51,7 @@ returns c =
     let m = c .before .before .before .before .check-bytes in
     let a = c .before .before .answer .given in
     check-exported (c .before .before .before .before .before .before .load-grid .ensures .loaded) (m .ensures .0) (m .ensures .1)
-    (packs-same pairPlaces checkReply (a .1) (c .refusal-number .ensures ∙ refused-packed pairPlaces (a .0 .0)))
+    (packs-same pairPlaces checkReply (a .1) (c .pack-refused .ensures ∙ refused-packed pairPlaces (a .0 .0)))
     (kept-same pairPlaces checkReply (a .1) (unpack-refused pairPlaces (a .0 .0)))
 
 returns-2 : tie.Need-returns-2
@@ -73,7 +73,7 @@ flow-check-plan-spec =
     slice-aggregate-check-bytes
     check-bytes-requires
     enum-known-answer
-    refusal-number-requires
+    pack-refused-requires
     enum-known-answer-2
     mul-result
     mul-result-2

@@ -16,8 +16,8 @@ coarsest-on-bytes-requires c κs = search needs
 enum-known-answer : tie.Need-enum-known-answer
 enum-known-answer c = search needs
 
-refusal-number-requires : tie.Need-refusal-number-requires
-refusal-number-requires c κs = search needs
+pack-refused-requires : tie.Need-pack-refused-requires
+pack-refused-requires c κs = search needs
 
 enum-known-answer-2 : tie.Need-enum-known-answer-2
 enum-known-answer-2 c = search needs
@@ -37,7 +37,7 @@ returns c =
     let m = c .before .before .before .before .before .before .before .before .coarsest-on-bytes in
     let a = c .before .before .answer .given in
     coarsest-exported (m .ensures .0) (m .ensures .1)
-    (packs-same coarsestPlaces coarsestReply (a .1) (c .refusal-number .ensures ∙ refused-packed coarsestPlaces (a .0 .0)))
+    (packs-same coarsestPlaces coarsestReply (a .1) (c .pack-refused .ensures ∙ refused-packed coarsestPlaces (a .0 .0)))
     (kept-same coarsestPlaces coarsestReply (a .1) (unpack-refused coarsestPlaces (a .0 .0)))
 
 same-length-3 : tie.Need-same-length-3
@@ -59,7 +59,7 @@ flow-coarsest-spec =
     (tie.spec
     coarsest-on-bytes-requires
     enum-known-answer
-    refusal-number-requires
+    pack-refused-requires
     enum-known-answer-2
     pack-counts-requires
     same-length

@@ -17,8 +17,8 @@ compare-requires c κs = search needs
 enum-known-answer : tie.Need-enum-known-answer
 enum-known-answer c = search needs
 
-refusal-number-requires : tie.Need-refusal-number-requires
-refusal-number-requires c κs = search needs
+pack-refused-requires : tie.Need-pack-refused-requires
+pack-refused-requires c κs = search needs
 
 enum-known-answer-2 : tie.Need-enum-known-answer-2
 enum-known-answer-2 c = search needs
@@ -50,7 +50,7 @@ returns c =
     let m = c .before .before .before .before .compare in
     let a = c .before .before .answer .given in
     compare-exported (m .ensures .0) (m .ensures .1)
-    (packs-same comparePlaces compareReply (a .1) (c .refusal-number .ensures ∙ refused-packed comparePlaces (a .0 .0)))
+    (packs-same comparePlaces compareReply (a .1) (c .pack-refused .ensures ∙ refused-packed comparePlaces (a .0 .0)))
     (kept-same comparePlaces compareReply (a .1) (unpack-refused comparePlaces (a .0 .0)))
 
 returns-2 : tie.Need-returns-2
@@ -77,7 +77,7 @@ flow-compare-spec =
     (tie.spec
     compare-requires
     enum-known-answer
-    refusal-number-requires
+    pack-refused-requires
     enum-known-answer-2
     mul-result
     add-result

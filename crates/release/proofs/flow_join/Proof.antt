@@ -17,8 +17,8 @@ join-requires c κs = search needs
 enum-known-answer : tie.Need-enum-known-answer
 enum-known-answer c = search needs
 
-refusal-number-requires : tie.Need-refusal-number-requires
-refusal-number-requires c κs = search needs
+pack-refused-requires : tie.Need-pack-refused-requires
+pack-refused-requires c κs = search needs
 
 enum-known-answer-2 : tie.Need-enum-known-answer-2
 enum-known-answer-2 c = search needs
@@ -36,7 +36,7 @@ returns c =
     let m = c .before .before .before .before .before .before .join in
     let a = c .before .before .answer .given in
     join-exported (m .ensures .0) (m .ensures .1)
-    (packs-same onePlace joinReply (a .1) (c .refusal-number .ensures ∙ refused-packed onePlace (a .0 .0)))
+    (packs-same onePlace joinReply (a .1) (c .pack-refused .ensures ∙ refused-packed onePlace (a .0 .0)))
     (kept-same onePlace joinReply (a .1) (unpack-refused onePlace (a .0 .0)))
 
 same-length-2 : tie.Need-same-length-2
@@ -56,7 +56,7 @@ flow-join-spec =
     (tie.spec
     join-requires
     enum-known-answer
-    refusal-number-requires
+    pack-refused-requires
     enum-known-answer-2
     mul-result
     same-length

@@ -27,8 +27,8 @@ write-bytes-requires c κs = search needs
 enum-known-answer : tie.Need-enum-known-answer
 enum-known-answer c = search needs
 
-refusal-number-requires : tie.Need-refusal-number-requires
-refusal-number-requires c κs = search needs
+pack-refused-requires : tie.Need-pack-refused-requires
+pack-refused-requires c κs = search needs
 
 enum-known-answer-2 : tie.Need-enum-known-answer-2
 enum-known-answer-2 c = search needs
@@ -46,7 +46,7 @@ returns c =
     let m = c .before .before .before .before .before .before .write-bytes in
     let a = c .before .before .answer .given in
     write-exported (c .before .before .before .before .before .before .before .before .before .load-grid .ensures .loaded) (m .ensures .0) (m .ensures .1)
-    (packs-same onePlace writeReply (a .1) (c .refusal-number .ensures ∙ refused-packed onePlace (a .0 .0)))
+    (packs-same onePlace writeReply (a .1) (c .pack-refused .ensures ∙ refused-packed onePlace (a .0 .0)))
     (kept-same onePlace writeReply (a .1) (unpack-refused onePlace (a .0 .0)))
 
 same-length-2 : tie.Need-same-length-2
@@ -69,7 +69,7 @@ flow-write-plan-spec =
     slice-aggregate-write-bytes
     write-bytes-requires
     enum-known-answer
-    refusal-number-requires
+    pack-refused-requires
     enum-known-answer-2
     mul-result
     same-length

@@ -10,15 +10,17 @@ use Rattle.release.proofs.pack_checked.Tie as tie
 enum-known-answer : tie.Need-enum-known-answer
 enum-known-answer c = search needs
 
-refusal-number-requires : tie.Need-refusal-number-requires
-refusal-number-requires c κs = search needs
+pack-refused-requires : tie.Need-pack-refused-requires
+pack-refused-requires c κs = search needs
 
 enum-told : tie.Need-enum-told
 enum-told c = search needs
 
 returns : tie.Need-returns
 unfolding checkedReply
-returns c = packs-same noPlace checkedReply (c .before .before .answer .given .1) (c .refusal-number .ensures ∙ refused-packed noPlace (c .before .before .answer .given .0 .0))
+returns c =
+    let a = c .before .before .answer .given in
+    packs-same noPlace checkedReply (a .1) (c .pack-refused .ensures ∙ refused-packed noPlace (a .0 .0))
 
 returns-2 : tie.Need-returns-2
 unfolding checkedReply packed placed
@@ -26,4 +28,4 @@ returns-2 c = packs-same noPlace checkedReply (c .enum-told .given .1) refl
 
 pub pack-checked-spec : {M : Type 1} → statement M
 pack-checked-spec =
-    tie.close (tie.spec enum-known-answer refusal-number-requires enum-told returns returns-2)
+    tie.close (tie.spec enum-known-answer pack-refused-requires enum-told returns returns-2)

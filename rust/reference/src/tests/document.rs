@@ -1,10 +1,12 @@
 //! F1 to F9 and the program output of document 01.
 
+use super::refused;
 use crate::compare::compare;
 use crate::game::hand_play;
 use crate::grid;
 use crate::lts::Lts;
 use crate::plans::{check_plan, write_plan};
+use crate::refusal::Refusal;
 use crate::report::flowcheck;
 use crate::sheet;
 use crate::turns::coarsest;
@@ -76,14 +78,14 @@ fn f5_plan() {
     assert_eq!(plan[12..], [9; 5]);
     assert_eq!(check_plan(&F3, &start, &expected), Ok((2, 0)));
     assert_eq!(check_plan(&F3, &start, &plan[..15]), Ok((2, 0)));
-    assert_eq!(check_plan(&F3, &start, &plan), Err(14));
-    assert_eq!(check_plan(&F3, &start, &[]), Err(14));
-    assert_eq!(check_plan(&F3, &start, &expected[..3]), Err(14));
-    assert_eq!(check_plan(&F3, &start, &expected[8..]), Err(14));
-    assert_eq!(write_plan(&F3, &start, 2, 0, &mut [9; 11]), Err(15));
-    assert_eq!(write_plan(&F3, &start, 0, 2, &mut [9; 11]), Err(13));
-    assert_eq!(write_plan(&F3, &start, 0, 3, &mut [9; 11]), Err(11));
-    assert_eq!(write_plan(&F3, &start, 3, 0, &mut [9; 11]), Err(11));
+    assert_eq!(check_plan(&F3, &start, &plan), refused(14));
+    assert_eq!(check_plan(&F3, &start, &[]), refused(14));
+    assert_eq!(check_plan(&F3, &start, &expected[..3]), refused(14));
+    assert_eq!(check_plan(&F3, &start, &expected[8..]), refused(14));
+    assert_eq!(write_plan(&F3, &start, 2, 0, &mut [9; 11]), refused(15));
+    assert_eq!(write_plan(&F3, &start, 0, 2, &mut [9; 11]), refused(13));
+    assert_eq!(write_plan(&F3, &start, 0, 3, &mut [9; 11]), refused(11));
+    assert_eq!(write_plan(&F3, &start, 3, 0, &mut [9; 11]), refused(11));
 }
 
 #[test]
@@ -93,22 +95,23 @@ fn f6_hand_play() {
     assert_eq!(hand_play(&F3, &start, 2, 0, 1), Ok(false));
     assert_eq!(hand_play(&F3, &start, 2, 0, 2), Ok(true));
     assert_eq!(hand_play(&F3, &start, 2, 0, 6), Ok(true));
-    assert_eq!(hand_play(&F3, &start, 2, 0, 7), Err(12));
-    assert_eq!(hand_play(&F3, &start, 3, 0, 7), Err(11));
-    assert_eq!(hand_play(&F3, &start, 2, 3, 6), Err(11));
+    assert_eq!(hand_play(&F3, &start, 2, 0, 7), refused(12));
+    assert_eq!(hand_play(&F3, &start, 3, 0, 7), refused(11));
+    assert_eq!(hand_play(&F3, &start, 2, 3, 6), refused(11));
 }
 
 #[test]
 fn f7_f8_f9() {
     let mut f7 = F3;
     f7[0] = 0;
-    assert_eq!(sheet::read(&f7), Err(2));
+    assert_eq!(sheet::read(&f7), refused(2));
     let mut f8 = F3.to_vec();
     f8.push(0);
-    assert_eq!(sheet::read(&f8), Err(1));
+    assert_eq!(sheet::read(&f8), refused(1));
     let mut f9 = F3;
     f9[18 + 4] = 1;
-    assert_eq!(sheet::read(&f9), Err(5));
+    assert_eq!(sheet::read(&f9), Err(Refusal::reached_twice(1)));
+    assert_eq!(flowcheck(&f9), "refused 16\n");
 }
 
 #[test]
@@ -134,11 +137,11 @@ fn compare_of_the_flows() {
             assert_eq!(compare(first, second).unwrap().0, expected[i][j], "{i} {j}");
         }
     }
-    assert_eq!(compare(&F3[..5], &F3[..7]), Err(1));
+    assert_eq!(compare(&F3[..5], &F3[..7]), refused(1));
     let mut bad = F3;
     bad[7] = 1;
-    assert_eq!(compare(&F3, &bad), Err(3));
-    assert_eq!(compare(&F3[..29], &bad), Err(1));
+    assert_eq!(compare(&F3, &bad), refused(3));
+    assert_eq!(compare(&F3[..29], &bad), refused(1));
 }
 
 #[test]
@@ -147,27 +150,27 @@ fn refusals_leave_buffers() {
     let (mut words, mut names) = ([5; 3], [6; 3]);
     assert_eq!(
         coarsest(&F3, &start[..2], &[], &mut words, &mut names),
-        Err(8)
+        refused(8)
     );
     assert_eq!(
         coarsest(&F3, &[7, 8, 7], &[], &mut words, &mut names),
-        Err(8)
+        refused(8)
     );
     assert_eq!(
         coarsest(&F3, &[7, 5, 7], &[], &mut words, &mut names),
-        Err(9)
+        refused(9)
     );
     assert_eq!(
         coarsest(&F3, &[3, 6, 4], &[], &mut words, &mut names),
-        Err(10)
+        refused(10)
     );
     assert_eq!(
         coarsest(&F3, &start, &[], &mut words[..2], &mut names),
-        Err(15)
+        refused(15)
     );
     assert_eq!(
         coarsest(&F3, &start, &[], &mut words, &mut names[..2]),
-        Err(15)
+        refused(15)
     );
     assert_eq!((words, names), ([5; 3], [6; 3]));
     assert_eq!(
@@ -176,7 +179,7 @@ fn refusals_leave_buffers() {
     );
     assert_eq!((words, names), ([5, 7, 4], [0, 1, 2]));
     let mut four = [9; 4];
-    assert_eq!(grid::end_start(&F3, &mut four), Err(15));
+    assert_eq!(grid::end_start(&F3, &mut four), refused(15));
     assert_eq!(four, [9; 4]);
 }
 
@@ -191,7 +194,7 @@ fn test_simulation_on_f3() {
         grid::test_simulation(&F3, &[1, 2, 4], &[1, 3, 4]),
         Ok(false)
     );
-    assert_eq!(grid::test_simulation(&F3, &start, &[8, 0, 0]), Err(8));
-    assert_eq!(grid::test_simulation(&F3, &start, &[0, 0]), Err(8));
-    assert_eq!(grid::test_simulation(&F3, &[0, 0, 0], &[0, 0]), Err(9));
+    assert_eq!(grid::test_simulation(&F3, &start, &[8, 0, 0]), refused(8));
+    assert_eq!(grid::test_simulation(&F3, &start, &[0, 0]), refused(8));
+    assert_eq!(grid::test_simulation(&F3, &[0, 0, 0], &[0, 0]), refused(9));
 }

@@ -6,6 +6,7 @@ use crate::join::join;
 use crate::lts::Lts;
 use crate::prng::Prng;
 use crate::random;
+use crate::refusal::Refusal;
 use crate::sheet;
 
 /// Two pages, the second with the end mark; the moves 0 -2-> 1, 1 -1-> 0 and
@@ -54,9 +55,9 @@ fn bytes_past_the_end_stay() {
 }
 
 /// Asserts a refusal that leaves the buffer.
-fn refuses(first: &[u8], second: &[u8], length: usize, number: u8) {
+fn refuses(first: &[u8], second: &[u8], length: usize, refusal: Refusal) {
     let mut out = vec![0xa5; length];
-    assert_eq!(join(first, second, &mut out), Err(number));
+    assert_eq!(join(first, second, &mut out), Err(refusal));
     assert_eq!(out, vec![0xa5; length]);
 }
 
@@ -67,25 +68,26 @@ fn refusals_in_their_order() {
         sheet[at] = byte;
         sheet
     };
-    // The sheets with the refusals 1 to 6, by number.
-    let wrong: [&[u8]; 6] = [
-        &SECOND[..31],
-        &with(0, 0),
-        &with(7, 1),
-        &with(14, 3),
-        &with(8, 0),
-        &with(28, 0),
+    // The sheets with the refusals of a sheet, in their order.
+    let wrong: [(&[u8], Refusal); 7] = [
+        (&SECOND[..31], Refusal::LENGTH),
+        (&with(0, 0), Refusal::RANGE),
+        (&with(7, 1), Refusal::PAGE_RECORD),
+        (&with(14, 3), Refusal::MOVE_RECORD),
+        (&with(8, 0), Refusal::unreached(2)),
+        (&with(24, 1), Refusal::reached_twice(1)),
+        (&with(28, 0), Refusal::TWICE),
     ];
-    for (one, first) in wrong.iter().enumerate() {
-        refuses(first, &SECOND, 56, one as u8 + 1);
-        refuses(&SECOND, first, 56, one as u8 + 1);
-        refuses(&SECOND, first, 0, one as u8 + 1);
-        for second in wrong {
-            refuses(first, second, 0, one as u8 + 1);
+    for (first, refusal) in wrong {
+        refuses(first, &SECOND, 56, refusal);
+        refuses(&SECOND, first, 56, refusal);
+        refuses(&SECOND, first, 0, refusal);
+        for (second, _) in wrong {
+            refuses(first, second, 0, refusal);
         }
     }
-    refuses(&F3, &SECOND, 55, 15);
-    refuses(&F3, &SECOND, 0, 15);
+    refuses(&F3, &SECOND, 55, Refusal::BUFFER);
+    refuses(&F3, &SECOND, 0, Refusal::BUFFER);
 }
 
 #[test]
@@ -96,8 +98,8 @@ fn at_and_above_the_limits() {
         join(&pages(6), &pages(250), &mut vec![0; length]),
         Ok(length)
     );
-    refuses(&pages(6), &pages(251), length + 4, 7);
-    refuses(&pages(256), &pages(1), 0, 7);
+    refuses(&pages(6), &pages(251), length + 4, Refusal::JOIN);
+    refuses(&pages(256), &pages(1), 0, Refusal::JOIN);
 
     let mut rng = Prng::new(12);
     let mut moves = |k: usize| sheet::write(&random::lts_exact(&mut rng, 20, 3, k, 0));
@@ -106,8 +108,8 @@ fn at_and_above_the_limits() {
         join(&moves(24), &moves(1000), &mut vec![0; length]),
         Ok(length)
     );
-    refuses(&moves(25), &moves(1000), length + 6, 7);
-    refuses(&moves(1000), &moves(25), 0, 7);
+    refuses(&moves(25), &moves(1000), length + 6, Refusal::JOIN);
+    refuses(&moves(1000), &moves(25), 0, Refusal::JOIN);
 }
 
 #[test]

@@ -1,6 +1,7 @@
 //! Property tests with a fixed seed: the turn rule against the two other
 //! ways to the coarsest simulation, and plans and play against the rounds.
 
+use super::refused;
 use crate::base;
 use crate::compare;
 use crate::fixpoint;
@@ -10,6 +11,7 @@ use crate::lts::Lts;
 use crate::plans::{check_plan, write_plan, Rounds, Strategy};
 use crate::prng::Prng;
 use crate::random;
+use crate::refusal::Refusal;
 use crate::relation::{Preorder, Relation};
 use crate::sheet;
 use crate::turns::{self, Turns};
@@ -150,12 +152,12 @@ fn written_plans_are_accepted() {
                         let mut short = vec![77; 4 * count - 1];
                         assert_eq!(
                             write_plan(&sheet, &words, p as u16, q as u16, &mut short),
-                            Err(15)
+                            refused(15)
                         );
                         assert_eq!(short, vec![77; 4 * count - 1]);
                     }
-                    Err(number) => {
-                        assert_eq!(number, 13);
+                    Err(refusal) => {
+                        assert_eq!(refusal, Refusal::KEPT_PAIR);
                         assert_eq!(rounds.falls_at(p, q), None);
                         assert_eq!(plan, before);
                     }

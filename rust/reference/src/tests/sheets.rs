@@ -1,45 +1,29 @@
 //! Tests of the sheet reader.
 
 use super::document::F3;
+use super::refused;
+use crate::chain_faults::raw;
 use crate::lts::Lts;
 use crate::prng::Prng;
 use crate::random;
 use crate::sheet::{length, normalise, read, write};
 
-/// A sheet of one-move pages: firsts per page, (action, target, next) per record.
-fn raw(m: u16, firsts: &[u16], records: &[(u8, u16, u16)]) -> Vec<u8> {
-    let mut bytes = Vec::new();
-    for count in [firsts.len() as u16, m, records.len() as u16] {
-        bytes.extend(count.to_le_bytes());
-    }
-    for first in firsts {
-        bytes.extend([0, 0]);
-        bytes.extend(first.to_le_bytes());
-    }
-    for &(action, target, next) in records {
-        bytes.extend([action, 0]);
-        bytes.extend(target.to_le_bytes());
-        bytes.extend(next.to_le_bytes());
-    }
-    bytes
-}
-
 #[test]
 fn length_before_and_after_the_ranges() {
     for cut in 0..6 {
-        assert_eq!(read(&vec![255; cut]), Err(1));
+        assert_eq!(read(&vec![255; cut]), refused(1));
     }
-    assert_eq!(read(&[255; 6]), Err(2));
-    assert_eq!(read(&[1, 0, 0, 0, 0, 0]), Err(1));
-    assert_eq!(read(&[0, 0, 0, 0, 0, 0]), Err(2));
-    assert_eq!(read(&[1, 0, 65, 0, 0, 0, 0, 0, 0, 0]), Err(2));
+    assert_eq!(read(&[255; 6]), refused(2));
+    assert_eq!(read(&[1, 0, 0, 0, 0, 0]), refused(1));
+    assert_eq!(read(&[0, 0, 0, 0, 0, 0]), refused(2));
+    assert_eq!(read(&[1, 0, 65, 0, 0, 0, 0, 0, 0, 0]), refused(2));
     assert_eq!(
         read(&[1, 0, 64, 0, 0, 0, 0, 0, 0, 0]),
         Ok(Lts::of(1, 64, &[]))
     );
-    assert_eq!(read(&raw(0, &[0; 257], &[])), Err(2));
+    assert_eq!(read(&raw(0, &[0; 257], &[])), refused(2));
     assert!(read(&raw(0, &[0; 256], &[])).is_ok());
-    assert_eq!(read(&F3[..29]), Err(1));
+    assert_eq!(read(&F3[..29]), refused(1));
 }
 
 #[test]
@@ -51,7 +35,7 @@ fn full_size() {
     assert_eq!(read(&sheet), Ok(lts));
     let mut more = sheet.clone();
     more[4..6].copy_from_slice(&1025u16.to_le_bytes());
-    assert_eq!(read(&more), Err(2));
+    assert_eq!(read(&more), refused(2));
     assert_eq!(length(256, 1024), 7174);
 }
 
@@ -62,33 +46,9 @@ fn chains() {
         read(&raw(1, &[2, 0], &[(1, 0, 0), (1, 1, 1)])),
         Ok(Lts::of(2, 1, &[(0, 1, 0), (0, 1, 1)]))
     );
-    // A one-record cycle that no page names.
-    assert_eq!(read(&raw(1, &[1], &[(1, 0, 0), (1, 0, 2)])), Err(5));
-    // A longer cycle that no page names.
-    assert_eq!(
-        read(&raw(2, &[1], &[(1, 0, 0), (1, 0, 3), (2, 0, 2)])),
-        Err(5)
-    );
-    // Two pages name one record.
-    assert_eq!(read(&raw(1, &[1, 1], &[(1, 0, 0)])), Err(5));
-    // A chain that runs into another.
-    assert_eq!(
-        read(&raw(2, &[1, 2], &[(1, 0, 3), (1, 1, 3), (2, 0, 0)])),
-        Err(5)
-    );
-    assert_eq!(read(&raw(2, &[1, 2], &[(1, 0, 2), (1, 1, 0)])), Err(5));
-    // A record on no chain.
-    assert_eq!(read(&raw(1, &[0], &[(1, 0, 0)])), Err(5));
-    // A cycle at the end of a chain.
-    assert_eq!(
-        read(&raw(3, &[1], &[(1, 0, 2), (2, 0, 3), (3, 0, 2)])),
-        Err(5)
-    );
     // The same move twice in one chain, and in two.
-    assert_eq!(read(&raw(1, &[1, 0], &[(1, 1, 2), (1, 1, 0)])), Err(6));
+    assert_eq!(read(&raw(1, &[1, 0], &[(1, 1, 2), (1, 1, 0)])), refused(6));
     assert!(read(&raw(1, &[1, 2], &[(1, 1, 0), (1, 1, 0)])).is_ok());
-    // 5 comes before 6.
-    assert_eq!(read(&raw(1, &[1, 0], &[(1, 1, 2), (1, 1, 1)])), Err(5));
 }
 
 #[test]
@@ -101,17 +61,17 @@ fn records() {
         read(&bytes).map(|_| ())
     };
     assert_eq!(with(6, 1), Ok(()));
-    assert_eq!(with(6, 2), Err(3));
-    assert_eq!(with(11, 1), Err(3));
-    assert_eq!(with(8, 3), Err(3));
-    assert_eq!(with(9, 1), Err(3));
-    assert_eq!(with(14, 0), Err(4));
-    assert_eq!(with(14, 3), Err(4));
-    assert_eq!(with(15, 1), Err(4));
-    assert_eq!(with(16, 2), Err(4));
-    assert_eq!(with(17, 1), Err(4));
-    assert_eq!(with(18, 3), Err(4));
-    assert_eq!(with(19, 1), Err(4));
+    assert_eq!(with(6, 2), refused(3));
+    assert_eq!(with(11, 1), refused(3));
+    assert_eq!(with(8, 3), refused(3));
+    assert_eq!(with(9, 1), refused(3));
+    assert_eq!(with(14, 0), refused(4));
+    assert_eq!(with(14, 3), refused(4));
+    assert_eq!(with(15, 1), refused(4));
+    assert_eq!(with(16, 2), refused(4));
+    assert_eq!(with(17, 1), refused(4));
+    assert_eq!(with(18, 3), refused(4));
+    assert_eq!(with(19, 1), refused(4));
 }
 
 #[test]
@@ -129,7 +89,7 @@ fn normal_form_is_the_same_flow_and_stays() {
         assert_eq!(normalise(&once, &mut twice), Ok(()));
         assert_eq!(once, twice);
         let mut longer = vec![170; sheet.len() + 1];
-        assert_eq!(normalise(&sheet, &mut longer), Err(15));
+        assert_eq!(normalise(&sheet, &mut longer), refused(15));
         assert_eq!(longer, vec![170; sheet.len() + 1]);
     }
 }
@@ -155,7 +115,11 @@ fn any_bytes_are_read_or_refused() {
                 assert_eq!(lts.transitions().len(), k);
                 assert_eq!(write(&lts).len(), sheet.len());
             }
-            Err(number) => assert!((1..=6).contains(&number)),
+            Err(refusal) => match refusal.number {
+                5 | 16 => assert!((1..=sheet[4].into()).contains(&refusal.record)),
+                1..=6 => assert_eq!(refusal.record, 0),
+                number => panic!("refusal {number}"),
+            },
         }
     }
 }

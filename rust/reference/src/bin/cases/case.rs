@@ -1,8 +1,9 @@
 //! One case: its fields, its bytes and its expected answer.
 
-use reference::compare::{self, compare};
+use reference::compare::compare;
 use reference::game::hand_play;
 use reference::grid::{end_start, test_simulation};
+use reference::join::join;
 use reference::plans::{check_plan, write_plan};
 use reference::refusal::Refusal;
 use reference::report::flowcheck;
@@ -20,8 +21,8 @@ pub struct Case {
 
 /// What a call comes to.
 pub struct Answer {
-    /// The refusal number, 0 for none.
-    pub refusal: u8,
+    /// The refusal, if the call gives one.
+    pub refusal: Option<Refusal>,
     /// The call's values, all 0 on a refusal.
     pub values: Vec<usize>,
     /// The lent mutable buffers after the call, as bytes.
@@ -233,27 +234,34 @@ impl Case {
 
 impl Answer {
     /// The answer for a result with the given number of values.
-    fn of(result: Result<Vec<usize>, u8>, count: usize, buffers: Vec<Vec<u8>>) -> Answer {
+    fn of(result: Result<Vec<usize>, Refusal>, count: usize, buffers: Vec<Vec<u8>>) -> Answer {
         match result {
             Ok(values) => Answer {
-                refusal: 0,
+                refusal: None,
                 values,
                 buffers,
             },
             Err(refusal) => Answer {
-                refusal,
+                refusal: Some(refusal),
                 values: vec![0; count],
                 buffers,
             },
         }
     }
 
-    /// The line expected for the case of this number and op.
+    /// The refusal number and the record number, both 0 without a refusal.
+    pub fn numbers(&self) -> (u8, u16) {
+        self.refusal.map_or((0, 0), |r| (r.number, r.record))
+    }
+
+    /// The line expected for the case of this number and op: the two, the
+    /// refusal and the record number, the values, the buffers' checksums.
     pub fn line(&self, number: usize, op: u8) -> String {
         let mut items = vec![number, usize::from(op)];
         // The text of flowcheck has its refusals in it.
         if op != 16 {
-            items.push(usize::from(self.refusal));
+            let (refusal, record) = self.numbers();
+            items.extend([usize::from(refusal), usize::from(record)]);
         }
         items.extend(&self.values);
         items.extend(self.buffers.iter().map(|buffer| checksum(buffer)));
@@ -300,7 +308,7 @@ fn numbers(bytes: &[u8]) -> Vec<u16> {
 
 /// What bytes carry, nothing if they are not a multiple of the unit.
 fn whole<T>(bytes: &[u8], unit: usize, carried: fn(&[u8]) -> Vec<T>) -> Vec<T> {
-    if bytes.len() % unit == 0 {
+    if bytes.len().is_multiple_of(unit) {
         carried(bytes)
     } else {
         Vec::new()
@@ -310,16 +318,4 @@ fn whole<T>(bytes: &[u8], unit: usize, carried: fn(&[u8]) -> Vec<T>) -> Vec<T> {
 /// A buffer with other bytes in front.
 fn over(buffer: &[u8], front: Vec<u8>) -> Vec<u8> {
     [&front[..], &buffer[front.len()..]].concat()
-}
-
-/// Join: writes the joined flow as a normal sheet and gives its length. A
-/// refusal leaves the buffer as it is, and bytes past the length stay.
-fn join(first: &[u8], second: &[u8], out: &mut [u8]) -> Result<usize, u8> {
-    let (first, second) = (sheet::read(first)?, sheet::read(second)?);
-    let joined = sheet::write(&compare::join(&first, &second)?);
-    if out.len() < joined.len() {
-        return Err(Refusal::BUFFER.0);
-    }
-    out[..joined.len()].copy_from_slice(&joined);
-    Ok(joined.len())
 }

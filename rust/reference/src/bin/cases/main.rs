@@ -5,6 +5,7 @@
 //! The answers are those of this independent program alone.
 
 mod case;
+mod chains;
 mod coarsest;
 mod games;
 mod make;
@@ -14,34 +15,37 @@ mod sheets;
 mod wrong;
 
 use case::Case;
-use std::collections::BTreeMap;
+use std::collections::{BTreeMap, BTreeSet};
 use std::path::Path;
 use std::process::ExitCode;
 
 /// The most bytes of the two files together.
-const MOST_BYTES: usize = 1_700_000;
+const MOST_BYTES: usize = 1_900_000;
 
 /// The refusals that each operation meets, 0 for none.
 const REFUSALS: [(u8, &[u8]); 16] = [
-    (1, &[0, 1, 2, 3, 4, 5, 6, 15]),
-    (2, &[0, 1, 2, 3, 4, 5, 6, 15]),
-    (3, &[0, 1, 2, 3, 4, 5, 6, 8, 9, 10]),
-    (4, &[0, 1, 2, 3, 4, 5, 6, 8, 9, 10, 15]),
+    (1, &[0, 1, 2, 3, 4, 5, 6, 15, 16]),
+    (2, &[0, 1, 2, 3, 4, 5, 6, 15, 16]),
+    (3, &[0, 1, 2, 3, 4, 5, 6, 8, 9, 10, 16]),
+    (4, &[0, 1, 2, 3, 4, 5, 6, 8, 9, 10, 15, 16]),
     (5, CHECKS),
     (6, WRITES),
-    (7, &[0, 1, 2, 3, 4, 5, 6, 8, 9, 10, 11, 12]),
-    (8, &[0, 1, 2, 3, 4, 5, 6, 7]),
-    (9, &[0, 1, 2, 3, 4, 5, 6]),
+    (7, &[0, 1, 2, 3, 4, 5, 6, 8, 9, 10, 11, 12, 16]),
+    (8, &[0, 1, 2, 3, 4, 5, 6, 7, 16]),
+    (9, &[0, 1, 2, 3, 4, 5, 6, 16]),
     (10, CHECKS),
     (11, WRITES),
     (12, CHECKS),
     (13, WRITES),
-    (14, &[0, 1, 2, 3, 4, 5, 6, 8, 9, 10, 15]),
-    (15, &[0, 1, 2, 3, 4, 5, 6, 7, 15]),
+    (14, &[0, 1, 2, 3, 4, 5, 6, 8, 9, 10, 15, 16]),
+    (15, &[0, 1, 2, 3, 4, 5, 6, 7, 15, 16]),
     (16, &[0]),
 ];
-const CHECKS: &[u8] = &[0, 1, 2, 3, 4, 5, 6, 8, 9, 10, 14];
-const WRITES: &[u8] = &[0, 1, 2, 3, 4, 5, 6, 8, 9, 10, 11, 13, 15];
+const CHECKS: &[u8] = &[0, 1, 2, 3, 4, 5, 6, 8, 9, 10, 14, 16];
+const WRITES: &[u8] = &[0, 1, 2, 3, 4, 5, 6, 8, 9, 10, 11, 13, 15, 16];
+
+/// Records that each operation meets with 5 and with 16.
+const RECORDS: [u16; 3] = [1, 2, 3];
 
 /// All cases.
 fn cases() -> Vec<Case> {
@@ -51,36 +55,53 @@ fn cases() -> Vec<Case> {
         coarsest::cases(),
         plans::cases(),
         games::cases(),
+        chains::cases(),
     ]
     .concat()
 }
 
+/// How often an operation meets each refusal number with each record number.
+type Met = BTreeMap<(u8, u16), usize>;
+
 /// The two files. Stops where a case is too long for its reader, where an
-/// operation does not meet each of its refusals, or where there is too much.
+/// operation does not meet what it should, or where there is too much.
 fn files() -> (Vec<u8>, String) {
     let (mut input, mut output) = (Vec::new(), String::new());
-    // How often each operation meets each refusal.
-    let mut met: BTreeMap<u8, BTreeMap<u8, usize>> = BTreeMap::new();
+    let mut met: BTreeMap<u8, Met> = BTreeMap::new();
     for (i, case) in cases().iter().enumerate() {
         case.assert_limits();
         let answer = case.run();
         input.extend(case.encode());
         output += &answer.line(i + 1, case.op);
-        *met.entry(case.op)
-            .or_default()
-            .entry(answer.refusal)
-            .or_default() += 1;
+        let met = met.entry(case.op).or_default();
+        *met.entry(answer.numbers()).or_default() += 1;
     }
-    for (op, counts) in &met {
-        println!("operation {op}, cases of each refusal: {counts:?}");
+    for (op, met) in &met {
+        println!("operation {op}, cases of each refusal and record: {met:?}");
     }
     for (op, refusals) in REFUSALS {
-        assert!(met[&op].keys().eq(refusals), "operation {op}");
+        assert_met(op, refusals, &met[&op]);
     }
     assert_eq!(met.len(), REFUSALS.len());
     println!("{} and {} bytes", input.len(), output.len());
     assert!(input.len() + output.len() <= MOST_BYTES);
     (input, output)
+}
+
+/// Stops where the operation does not meet these refusals and no others, or
+/// one of them with too few records.
+fn assert_met(op: u8, refusals: &[u8], met: &Met) {
+    let numbers: BTreeSet<u8> = met.keys().map(|&(refusal, _)| refusal).collect();
+    assert!(numbers.iter().eq(refusals), "operation {op}");
+    for &refusal in refusals {
+        let records: &[u16] = if matches!(refusal, 5 | 16) {
+            &RECORDS
+        } else {
+            &[0]
+        };
+        let meets = |&record: &u16| met.contains_key(&(refusal, record));
+        assert!(records.iter().all(meets), "operation {op}, {refusal}");
+    }
 }
 
 /// Writes the two files into the folder named.

@@ -41,8 +41,8 @@ pub fn f9() -> Vec<u8> {
     with_byte(&f3(), 22, 1)
 }
 
-/// One sheet for each refusal from 1 to 6, in this order, with n = 3 where
-/// it can be.
+/// One sheet for each refusal of a sheet, in their order: 1 to 5, 16 and 6,
+/// with n = 3 where it can be.
 pub fn refused_sheets() -> Vec<Vec<u8>> {
     let twice = RawSheet::of(1, &[1, 0, 0], &[(1, 1, 2), (1, 1, 0)]);
     vec![
@@ -50,6 +50,7 @@ pub fn refused_sheets() -> Vec<Vec<u8>> {
         f7(),
         with_byte(&f3(), 7, 1),
         with_byte(&f3(), 19, 1),
+        with_byte(&f3(), 16, 0), // page 2 without its record, which is 2
         f9(),
         twice.bytes(),
     ]

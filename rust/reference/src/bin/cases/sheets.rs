@@ -284,7 +284,8 @@ fn repeats(cases: &mut Vec<Case>) {
 fn orders(cases: &mut Vec<Case>) {
     let bad_page = |s: &mut RawSheet| s.pages[2].spare = 1;
     let bad_move = |s: &mut RawSheet| s.moves[0].spare = 1;
-    let bad_chain = |s: &mut RawSheet| s.moves[0].next = 1;
+    let lost = |s: &mut RawSheet| s.moves[2].next = 0;
+    let twice = |s: &mut RawSheet| s.moves[0].next = 1;
     let repeat = |s: &mut RawSheet| s.moves[0].action = 2;
     let repeated = base().with(|s| {
         s.moves[0].target = 1;
@@ -297,15 +298,20 @@ fn orders(cases: &mut Vec<Case>) {
         base(),
         base().with(bad_page),
         base().with(|s| (bad_page(s), bad_move(s)).0),
-        base().with(|s| (bad_page(s), bad_chain(s)).0),
+        base().with(|s| (bad_page(s), lost(s)).0),
+        base().with(|s| (bad_page(s), twice(s)).0),
         base().with(bad_move),
-        base().with(|s| (bad_move(s), bad_chain(s)).0),
-        base().with(bad_chain),
+        base().with(|s| (bad_move(s), lost(s)).0),
+        base().with(|s| (bad_move(s), twice(s)).0),
+        base().with(lost),
+        base().with(twice),
+        base().with(|s| (lost(s), s.pages[1].first = 4).0),
         repeated.clone(),
-        repeated.with(bad_chain),
+        repeated.with(|s| s.moves[3].next = 0),
+        repeated.with(twice),
         repeated.with(bad_move),
         repeated.with(bad_page),
-        repeated.with(|s| (bad_page(s), bad_move(s), bad_chain(s)).0),
+        repeated.with(|s| (bad_page(s), bad_move(s), twice(s)).0),
     ];
     for sheet in &all {
         let bytes = sheet.bytes();
@@ -328,7 +334,7 @@ fn orders(cases: &mut Vec<Case>) {
             .with(|s| (s.pages[0].first = 5, s.pages[2].mark = 2).0)
             .bytes(),
     );
-    // A repeat in the chain of page 0 and a bad chain at page 2.
+    // A repeat in the chain of page 0, and page 2 or 1 names one of its records.
     add(cases, &repeated.with(|s| s.pages[2].first = 1).bytes());
     add(cases, &repeated.with(|s| s.pages[1].first = 3).bytes());
 }
