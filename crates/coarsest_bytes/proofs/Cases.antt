@@ -9,7 +9,8 @@ use Rattle.lts.specs.Refinement.{run, step, stepOf, eachAction, chosen, pending
 use Rattle.lts.specs.Rule.{broken, checked, given, refused}
 use Rattle.lts.specs.declared.Refusal.the-variants.{Buffer}
 use Rattle.encoding.proofs.Sheets.{F3}
-use Rattle.encoding.specs.Records.{numberAt, headerOf, stateRecordAt, transitionRecordAt, stateRecord, transitionRecord}
+use Rattle.encoding.specs.Records.{numberAt, headerOf, labelsLength, stateRecordAt, transitionRecordAt, stateRecord, transitionRecord}
+use Rattle.encoding.specs.Labels.{labelsFit}
 use Rattle.encoding.specs.Encoding.{inRange, stateFits, transitionFits, statesFit, transitionsFit, walk, chain, reached, member, onSomeChain, allReached, indices, occurrences, namedTwice, noneTwice, distinct, successor, successorsFit, headedRules, sheetRules}
 use Rattle.encoding.specs.Denotation.{any, ltsOf}
 use Rattle.rows.specs.Rows.{bit, wordOf, wordAt}
@@ -38,7 +39,7 @@ nines = 9 ∷ 9 ∷ 9 ∷ 9 ∷ 9 ∷ 9 ∷ []
 -- the end start is all pairs: 2 turns, 6 kept, 3 blocks
 done : coarsestOnBytes F3 all turns all nines
     ≡ record { reply = given (2 ∷ 6 ∷ 3 ∷ []); grid = word 5 (word 7 (word 4 [])); representatives = 0 ∷ 0 ∷ 1 ∷ 0 ∷ 2 ∷ 0 ∷ [] }
-unfolding numberAt headerOf stateRecordAt transitionRecordAt stateRecord transitionRecord inRange stateFits transitionFits allBelow statesFit transitionsFit walk chain concatBelow reached member onSomeChain allReached indices occurrences namedTwice noneTwice distinct successor successorsFit headedRules sheetRules broken checked any ltsOf isMatrix reflexiveBelow transitiveBelow transitiveAt transitivePair startRules inputRules bit wordOf wordAt inMatrix matrixOf coarsestRules refined anyBelow sumBelow countBelow passing listBelow lowest restrict allStates anyState allActions into run step stepOf eachAction chosen pending isRepresentative representative representativesOf block coarsest initial pairCount blockCount refine split prune remove xor numberOf digits numbersOf listOf bytesOf countOf carriedBy carriedBack coarsestOnBytes
+unfolding numberAt headerOf labelsLength labelsFit stateRecordAt transitionRecordAt stateRecord transitionRecord inRange stateFits transitionFits allBelow statesFit transitionsFit walk chain concatBelow reached member onSomeChain allReached indices occurrences namedTwice noneTwice distinct successor successorsFit headedRules sheetRules broken checked any ltsOf isMatrix reflexiveBelow transitiveBelow transitiveAt transitivePair startRules inputRules bit wordOf wordAt inMatrix matrixOf coarsestRules refined anyBelow sumBelow countBelow passing listBelow lowest restrict allStates anyState allActions into run step stepOf eachAction chosen pending isRepresentative representative representativesOf block coarsest initial pairCount blockCount refine split prune remove xor numberOf digits numbersOf listOf bytesOf countOf carriedBy carriedBack coarsestOnBytes
 done = refl
 
 -- a grid of 23 bytes; both buffers stay
@@ -46,5 +47,5 @@ abbrev short : List ℕ
 short = word 7 (word 7 (7 ∷ 0 ∷ 0 ∷ 0 ∷ 0 ∷ 0 ∷ 0 ∷ []))
 
 unfit : coarsestOnBytes F3 all turns short nines ≡ record { reply = refused Buffer; grid = short; representatives = nines }
-unfolding numberAt headerOf stateRecordAt transitionRecordAt stateRecord transitionRecord inRange stateFits transitionFits allBelow statesFit transitionsFit walk chain concatBelow reached member listBelow lowest onSomeChain allReached indices occurrences namedTwice noneTwice distinct successor successorsFit headedRules sheetRules broken checked isMatrix reflexiveBelow transitiveBelow transitiveAt transitivePair startRules inputRules bit inMatrix coarsestRules numberOf numbersOf countOf carriedBy coarsestOnBytes
+unfolding numberAt headerOf labelsLength labelsFit stateRecordAt transitionRecordAt stateRecord transitionRecord inRange stateFits transitionFits allBelow statesFit transitionsFit walk chain concatBelow reached member listBelow lowest onSomeChain allReached indices occurrences namedTwice noneTwice distinct successor successorsFit headedRules sheetRules broken checked isMatrix reflexiveBelow transitiveBelow transitiveAt transitivePair startRules inputRules bit inMatrix coarsestRules numberOf numbersOf countOf carriedBy coarsestOnBytes
 unfit = refl

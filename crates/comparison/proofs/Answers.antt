@@ -3,16 +3,16 @@ use Prim.Native.Nat.{ℕ}
 use mathlib.Core.Path.{_≡_, sym, ap, subst, _∙_}
 use mathlib.Core.List.{List}
 use Rattle.lts.specs.System.{Lts}
-use Rattle.lts.specs.Union.{disjointUnion, comparison, simulated}
+use Rattle.lts.specs.Union.{comparison, simulated}
 use Rattle.lts.specs.declared.Refusal.{Refusal}
-use Rattle.lts.specs.Rule.{checked, refused}
+use Rattle.lts.specs.Rule.{refused}
 use Rattle.lts.proofs.Rule.{refuses, passes}
 use Rattle.encoding.specs.declared.Header.{Header}
 use Rattle.encoding.specs.Records.{headerOf}
 use Rattle.encoding.specs.Denotation.{ltsOf}
 use Rattle.transitions.specs.Table.{tableLts, Holds}
 use Rattle.inputs.specs.declared.Both.the-variants.{Readable, Refused as Unreadable}
-use Rattle.inputs.specs.Both.{bothRules, readBoth}
+use Rattle.inputs.specs.Both.{joinedLts, bothRules, readBoth}
 use Rattle.inputs.proofs.Joined.{both-broken, both-read}
 use Rattle.comparison.specs.declared.Compared.{Compared}
 use Rattle.comparison.specs.declared.Compared.the-variants.{Refused}
@@ -30,10 +30,10 @@ module _ (first second : List ℕ) where
   unread e = let f = refuses (bothRules first second) refused _ (both-broken first second e) in (f, promised first second f)
 
   -- of a table of the joined flow
-  pub compared : {h g : Header} {t : List ℕ} (r : Compared) → readBoth first second ≡ Readable h g → Holds (disjointUnion (ltsOf first) (ltsOf second)) t
+  pub compared : {h g : Header} {m : ℕ} {t : List ℕ} (r : Compared) → readBoth first second ≡ Readable h g m → Holds (joinedLts first second) t
       → pairReply (tableLts t) (h .states) ≡ compareReply r → Meets first second r
   unfolding compareCall simulated comparison pairReply runReply ltsOf
-  compared {h} {g} {t} r e k f =
+  compared {h} {g} {m} {t} r e k f =
       let b = both-read first second e in
       let on-table = subst (λ (x : Header). pairReply (tableLts t) (x .states) ≡ compareReply r) (b .1) f in
       let on-sheets = sym (ap (λ (L : Lts). pairReply L (headerOf first .states)) (k .same)) ∙ on-table in

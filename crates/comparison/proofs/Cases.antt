@@ -6,18 +6,24 @@ use mathlib.Core.Logic.{⊎-elim}
 use mathlib.Core.Bool.{xor}
 use mathlib.Core.List.{List, [], _∷_}
 use Rattle.lts.specs.Bounded.{anyBelow, allBelow, sumBelow, countBelow, passing, concatBelow, listBelow, lowest, restrict}
-use Rattle.lts.specs.System.{allStates, anyState, allActions, into, terminationPreorder}
+use Rattle.lts.specs.System.{allStates, anyState, allActions, anyAction, into, terminationPreorder}
 use Rattle.lts.specs.Refinement.{initial, block, representative, isRepresentative, pending, remove, split, prune, refine, eachAction, stepOf, chosen, step, run, coarsest}
 use Rattle.lts.specs.Union.{disjointUnion, comparison, simulated}
 use Rattle.lts.specs.declared.Refusal.{Refusal}
 use Rattle.lts.specs.declared.Refusal.the-variants.{Length, ReachedTwice}
 use Rattle.lts.specs.Refusal.{refusalNumber, refusalRecord}
 use Rattle.lts.specs.Rule.{Nothing, First, broken, checked, Reply, given, refused}
-use Rattle.encoding.proofs.Sheets.{F1, F2}
-use Rattle.encoding.specs.Records.{numberAt, headerOf, stateRecordAt, transitionRecordAt, stateRecord, transitionRecord}
+use Rattle.encoding.proofs.Sheets.{F1, F2, open-first, open-second, loop}
+use Rattle.encoding.specs.Records.{numberAt, headerOf, labelRecordAt, labelRecord, labelsLength, stateRecordAt, transitionRecordAt, stateRecord, transitionRecord}
+use Rattle.encoding.specs.Labels.{visible, follows, labelFits, padded, decimalLabel, labelIn, labelsIn, labelsFit}
+use Rattle.report.specs.Decimal.{decimalIn, decimal}
+use Rattle.lts.specs.Mapped.{mapped}
+use Rattle.lts.specs.Places.{among, placeIn, continued}
+use Rattle.lts.specs.Places as places
+use Rattle.lts.specs.Labels.{sameLabel, labelOf, actionOf, joinedLabels, joinedAction, joinedSecond}
 use Rattle.encoding.specs.Encoding.{inRange, stateFits, statesFit, transitionFits, transitionsFit, walk, chain, reached, member, onSomeChain, allReached, indices, occurrences, namedTwice, noneTwice, distinct, successor, successorsFit, headedRules, sheetRules}
 use Rattle.encoding.specs.Denotation.{any, ltsOf}
-use Rattle.inputs.specs.Both.{fits, bothRules}
+use Rattle.inputs.specs.Both.{fits, jointRules, bothRules}
 use Rattle.comparison.specs.Call.{compareCall, ComparePromise}
 use Rattle.comparison.proofs.Promise.{promised}
 
@@ -34,8 +40,15 @@ cyclic = 1 ∷ 0 ∷ 1 ∷ 0 ∷ 1 ∷ 0 ∷ 0 ∷ 0 ∷ 1 ∷ 0 ∷ 1 ∷ 0 ∷
 cases : (compareCall F1 F1 ≡ given (1 ∷ 0 ∷ [])) × (compareCall ended F1 ≡ given (0 ∷ 1 ∷ []))
     × (compareCall once F2 ≡ given (1 ∷ 2 ∷ [])) × (compareCall F2 once ≡ given (0 ∷ 2 ∷ []))
     × (compareCall cyclic [] ≡ refused (ReachedTwice 1)) × (compareCall [] cyclic ≡ refused Length) × (compareCall F1 cyclic ≡ refused (ReachedTwice 1))
-unfolding xor anyBelow allBelow sumBelow countBelow passing concatBelow listBelow lowest restrict allStates anyState allActions into terminationPreorder initial block representative isRepresentative pending remove split prune refine eachAction stepOf chosen step run coarsest disjointUnion comparison simulated broken checked numberAt headerOf stateRecordAt transitionRecordAt stateRecord transitionRecord inRange stateFits statesFit transitionFits transitionsFit walk chain reached member onSomeChain allReached indices occurrences namedTwice noneTwice distinct successor successorsFit headedRules sheetRules any ltsOf fits bothRules compareCall
+unfolding xor anyBelow allBelow sumBelow countBelow passing concatBelow listBelow lowest restrict allStates anyState allActions into terminationPreorder initial block representative isRepresentative pending remove split prune refine eachAction stepOf chosen step run coarsest disjointUnion comparison simulated broken checked numberAt headerOf labelsLength labelsFit stateRecordAt transitionRecordAt stateRecord transitionRecord inRange stateFits statesFit transitionFits transitionsFit walk chain reached member onSomeChain allReached indices occurrences namedTwice noneTwice distinct successor successorsFit headedRules sheetRules any ltsOf labelIn labelsIn padded decimalLabel decimal decimalIn sameLabel among placeIn continued labelOf actionOf joinedLabels joinedAction joinedSecond mapped anyAction fits jointRules bothRules compareCall
 cases = (refl, refl, refl, refl, refl, refl, refl)
+
+-- by name each simulates the other; a plain sheet's action 1 is named "1", and no "open"
+named-cases : (compareCall open-first open-second ≡ given (1 ∷ 0 ∷ [])) × (compareCall open-second open-first ≡ given (1 ∷ 0 ∷ []))
+    × (compareCall loop open-first ≡ given (0 ∷ 2 ∷ []))
+    × (broken (bothRules open-first open-second) ≡ Nothing)
+unfolding xor anyBelow allBelow sumBelow countBelow passing concatBelow listBelow lowest restrict allStates anyState allActions into terminationPreorder initial block representative isRepresentative pending remove split prune refine eachAction stepOf chosen step run coarsest disjointUnion comparison simulated broken checked numberAt headerOf labelsLength labelsFit stateRecordAt transitionRecordAt stateRecord transitionRecord inRange stateFits statesFit transitionFits transitionsFit walk chain reached member onSomeChain allReached indices occurrences namedTwice noneTwice distinct places.distinct successor successorsFit headedRules sheetRules any ltsOf labelIn labelsIn padded decimalLabel decimal decimalIn sameLabel among placeIn continued labelOf actionOf joinedLabels joinedAction joinedSecond mapped anyAction fits jointRules bothRules compareCall labelRecordAt labelRecord visible follows labelFits
+named-cases = (refl, refl, refl, refl)
 
 -- of sheets that keep the rules, the promise allows one reply alone
 one-reply : (first second : List ℕ) {a b : Reply} → broken (bothRules first second) ≡ Nothing
@@ -46,7 +59,7 @@ one-reply first second e p q = ap (λ (r : Reply). r .values)
 
 -- so it refuses a constant yes, a constant no, and turns that are not made, on sheets where the answer is another
 kept : (broken (bothRules F2 once) ≡ Nothing) × (broken (bothRules once F2) ≡ Nothing)
-unfolding allBelow concatBelow broken numberAt headerOf stateRecordAt transitionRecordAt stateRecord transitionRecord inRange stateFits statesFit transitionFits transitionsFit walk chain reached member listBelow lowest onSomeChain allReached indices occurrences namedTwice noneTwice distinct successor successorsFit headedRules sheetRules fits bothRules
+unfolding allBelow concatBelow broken numberAt headerOf labelsLength labelsFit stateRecordAt transitionRecordAt stateRecord transitionRecord inRange stateFits statesFit transitionFits transitionsFit walk chain reached member listBelow lowest onSomeChain allReached indices occurrences namedTwice noneTwice distinct successor successorsFit headedRules sheetRules labelIn labelsIn padded decimalLabel decimal decimalIn sameLabel among continued joinedLabels fits jointRules bothRules
 kept = (refl, refl)
 
 not-always-yes : (turns : ℕ) → ComparePromise F2 once (given (1 ∷ turns ∷ [])) → ⊥
@@ -68,3 +81,9 @@ not-other-turns p =
 not-other-record : (first second : List ℕ) (r : Refusal) (k : ℕ) → broken (bothRules first second) ≡ First r → (k ≡ refusalRecord r → ⊥)
     → ComparePromise first second (record { refusal = refusalNumber r; recordNumber = k; values = [] }) → ⊥
 not-other-record first second r k e other p = other (ap (λ (x : Reply). x .recordNumber) (p .refuses r e))
+
+-- nor a no where matching by name gives a yes, as matching by number would
+not-by-number : (turns : ℕ) → ComparePromise open-first open-second (given (0 ∷ turns ∷ [])) → ⊥
+not-by-number turns p =
+    let e = one-reply open-first open-second (named-cases .3) p (promised open-first open-second (named-cases .0)) in
+    let z : _≡_ {A = ℕ} 0 1 = cc in omega arith

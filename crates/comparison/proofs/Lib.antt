@@ -1,4 +1,5 @@
 pub mod Runs
 pub mod Promise
 pub mod Answers
+pub mod Named
 mod Cases

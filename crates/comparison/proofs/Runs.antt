@@ -69,8 +69,7 @@ unfolding runReply
 run-reply n r q {related = related} some below e same f g =
     sym (ap₂ (λ (x : Bool) (i : ℕ). given (cond x 1 0 ∷ i ∷ [])) (f ∙ ap (λ (k : ℕ). relationOf k related 0 q) same ∙ relation-of n _ e 0 q some below) g)
 
--- the states of a table that holds both sheets
-pub joined-states : (s u : List ℕ) (h g : Header) → ReadableAs s h → ReadableAs u g → {t : List ℕ} → Holds (disjointUnion (ltsOf s) (ltsOf u)) t
-    → statesOf t ≡ h .states + g .states
+-- the states of a table that holds a sheet's system and, behind it, another
+pub joined-states : (s : List ℕ) (h : Header) → ReadableAs s h → (M : Lts) {t : List ℕ} → Holds (disjointUnion (ltsOf s) M) t → statesOf t ≡ h .states + M .states
 unfolding tableLts disjointUnion
-joined-states s u h g first second k = ap (λ (L : Lts). L .states) (k .same) ∙ ap₂ (λ (n m : ℕ). n + m) (lts-states s h (first .header)) (lts-states u g (second .header))
+joined-states s h first M k = ap (λ (L : Lts). L .states) (k .same) ∙ ap (λ (n : ℕ). n + M .states) (lts-states s h (first .header))

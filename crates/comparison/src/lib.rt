@@ -77,16 +77,17 @@ fn compare_ended(table: &transitions::Table, q: usize) -> Compared
     compare_from(table, &start[..size], q)
 }
 
-// Compare: whether state 0 of the second encoding's system simulates state 0 of the first's, with the steps made.
+// Compare: whether state 0 of the second encoding's system simulates state 0 of the first's, actions matched by name, with the steps made.
 pub fn compare(first: &[u8], second: &[u8]) -> Compared
     ensures { λ r. ⌜ compareCall (now (first .entry)) (now (second .entry)) ≡ compareReply r ⌝ }
     ensures { λ r. ⌜ ComparePromise (now (first .entry)) (now (second .entry)) (compareReply r) ⌝ }
 {
-    let reading = inputs::read_both(first, second);
+    let mut to = [0u16; 65];
+    let reading = inputs::read_both(first, second, &mut to);
     match reading {
         inputs::Both::Refused(r) => Compared::Refused(r),
-        inputs::Both::Readable(h, g) => {
-            let table = transitions::load_both(first, h, second, g);
+        inputs::Both::Readable(h, g, m) => {
+            let table = transitions::load_both(first, h, second, g, &to, m);
             compare_ended(&table, h.states)
         }
     }

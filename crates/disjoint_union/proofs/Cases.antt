@@ -6,19 +6,26 @@ use mathlib.Core.Path.{_≡_, refl, sym, ap, ap₂, _∙_}
 use mathlib.Core.List.{List, [], _∷_, _++_}
 use lib.ListN.{length, getD, take, drop, replicate, take-append-drop}
 use lib.Seq.{length-take-le}
-use Rattle.lts.specs.Bounded.{allBelow, passing, concatBelow, listBelow, lowest}
+use Rattle.lts.specs.Bounded.{anyBelow, allBelow, passing, concatBelow, listBelow, lowest}
 use Rattle.lts.specs.Transitions.{transitionsTo, transitionsBy, transitionsOf, transitionsBelow, transitions}
 use Rattle.lts.specs.Union.{disjointUnion}
 use Rattle.lts.specs.declared.Refusal.the-variants.{Length, ReachedTwice, Buffer}
 use Rattle.lts.specs.Rule.{Nothing, broken, checked, Reply, given, refused}
 use Rattle.lts.proofs.Rule.{passes}
-use Rattle.encoding.proofs.Sheets.{header, state, by, F1, endless, by-target}
-use Rattle.encoding.specs.Records.{numberAt, headerOf, stateRecordAt, transitionRecordAt, stateRecord, transitionRecord, two, headerBytes, stateBytes, transitionBytes}
+use Rattle.encoding.proofs.Sheets.{header, state, by, F1, endless, by-target, opens, shuts, name, named, open-first, open-second, loop}
+use Rattle.encoding.specs.Records.{numberAt, headerOf, labelRecordAt, labelRecord, labelsLength, stateRecordAt, transitionRecordAt, stateRecord, transitionRecord, two, headerBytes, stateBytes, transitionBytes}
+use Rattle.encoding.specs.Labels.{visible, follows, labelFits, padded, decimalLabel, labelIn, labelsIn, labelsFit, labelsBytes}
+use Rattle.report.specs.Decimal.{decimalIn, decimal}
+use Rattle.lts.specs.System.{anyState, anyAction, into}
+use Rattle.lts.specs.Mapped.{mapped}
+use Rattle.lts.specs.Places.{among, placeIn, continued}
+use Rattle.lts.specs.Places as places
+use Rattle.lts.specs.Labels.{sameLabel, labelOf, actionOf, joinedLabels, joinedAction, joinedSecond}
 use Rattle.encoding.specs.Encoding.{inRange, stateFits, statesFit, transitionFits, transitionsFit, walk, chain, reached, member, onSomeChain, allReached, indices, occurrences, namedTwice, noneTwice, distinct, successor, successorsFit, headedRules, sheetRules}
 use Rattle.encoding.specs.Denotation.{any, ltsOf}
-use Rattle.inputs.specs.Both.{fits, bothRules}
-use Rattle.normal_form.specs.Normal.{firstIndex, nextIndex, normalState, normalTransition, statesBytes, transitionsBytes, normal}
-use Rattle.disjoint_union.specs.Join.{JoinOutcome, joinedSheet, joinRules, joinCall, JoinPromise}
+use Rattle.inputs.specs.Both.{fits, jointRules, bothRules}
+use Rattle.normal_form.specs.Normal.{firstIndex, nextIndex, normalState, normalTransition, statesBytes, transitionsBytes, sheetBytes, recordsOf, normal}
+use Rattle.disjoint_union.specs.Join.{JoinOutcome, joinedLabelling, joinedSheet, joinRules, joinCall, JoinPromise}
 use Rattle.disjoint_union.proofs.Promise.{sheet-normal}
 
 -- a buffer of n bytes, each 9
@@ -44,8 +51,20 @@ cases : (joinCall F1 F1 (filled 14) ≡ outcome (14 ∷ []) (header 2 0 0 ++ sta
     × (joinCall F1 endless [] ≡ record { reply = refused (ReachedTwice 1); out = [] })
     × (joinCall [] endless [] ≡ record { reply = refused Length; out = [] })
     × (broken (joinRules F1 by-target (filled 30)) ≡ Nothing) × (broken (joinRules F1 wide (filled 14)) ≡ Nothing)
-unfolding allBelow passing concatBelow transitionsTo transitionsBy transitionsOf transitionsBelow transitions disjointUnion broken checked numberAt headerOf stateRecordAt transitionRecordAt stateRecord transitionRecord two headerBytes stateBytes transitionBytes inRange stateFits statesFit transitionFits transitionsFit walk chain reached member listBelow lowest onSomeChain allReached indices occurrences namedTwice noneTwice distinct successor successorsFit headedRules sheetRules any ltsOf fits bothRules firstIndex nextIndex normalState normalTransition statesBytes transitionsBytes normal joinRules joinCall
+unfolding anyBelow allBelow passing concatBelow transitionsTo transitionsBy transitionsOf transitionsBelow transitions disjointUnion broken checked numberAt headerOf labelsLength labelsFit stateRecordAt transitionRecordAt stateRecord transitionRecord two headerBytes stateBytes transitionBytes inRange stateFits statesFit transitionFits transitionsFit walk chain reached member listBelow lowest onSomeChain allReached indices occurrences namedTwice noneTwice distinct successor successorsFit headedRules sheetRules any ltsOf labelRecordAt labelRecord visible follows labelFits labelIn labelsIn labelsBytes padded decimalLabel decimal decimalIn sameLabel among placeIn continued places.distinct labelOf actionOf joinedLabels joinedAction joinedSecond mapped anyState anyAction into joinedLabelling fits jointRules bothRules firstIndex nextIndex normalState normalTransition statesBytes transitionsBytes sheetBytes recordsOf normal joinRules joinCall
 cases = (refl, refl, refl, refl, refl, refl, refl, refl, refl)
+
+-- the joined sheet has the first's names, then the second's new one, and both pages open by action 1; of a plain and a named sheet it is named
+abbrev both-open : List ℕ
+both-open = named 2 2 2 (opens ++ shuts) ++ state 1 ++ state 2 ++ by 1 0 0 ++ by 1 1 0
+
+named-cases : (joinCall open-first open-second (filled 58) ≡ outcome (58 ∷ []) both-open)
+    × (joinCall loop open-first (filled 58) ≡ outcome (58 ∷ [])
+    (named 2 2 2 (name (49 ∷ []) 15 ++ opens) ++ state 1 ++ state 2 ++ by 1 0 0 ++ by 2 1 0))
+    × (joinCall open-first open-second (filled 57) ≡ record { reply = refused Buffer; out = filled 57 })
+    × (broken (joinRules open-first open-second (filled 58)) ≡ Nothing)
+unfolding anyBelow allBelow passing concatBelow transitionsTo transitionsBy transitionsOf transitionsBelow transitions disjointUnion broken checked numberAt headerOf labelsLength labelsFit stateRecordAt transitionRecordAt stateRecord transitionRecord two headerBytes stateBytes transitionBytes inRange stateFits statesFit transitionFits transitionsFit walk chain reached member listBelow lowest onSomeChain allReached indices occurrences namedTwice noneTwice distinct successor successorsFit headedRules sheetRules any ltsOf labelRecordAt labelRecord visible follows labelFits labelIn labelsIn labelsBytes padded decimalLabel decimal decimalIn sameLabel among placeIn continued places.distinct labelOf actionOf joinedLabels joinedAction joinedSecond mapped anyState anyAction into joinedLabelling fits jointRules bothRules firstIndex nextIndex normalState normalTransition statesBytes transitionsBytes sheetBytes recordsOf normal joinRules joinCall
+named-cases = (refl, refl, refl, refl)
 
 -- of sheets that keep the rules, the promise allows one outcome alone
 one-outcome : (first second out₀ : List ℕ) {reply : Reply} {out : List ℕ} → broken (joinRules first second out₀) ≡ Nothing
@@ -56,7 +75,7 @@ one-outcome first second out₀ {reply} {out} e p =
     let j = p .answers e .1 in
     let bytes = joinedSheet first second in
     let w = j .written in
-    let front : take len out ≡ bytes = sheet-normal first second out₀ e .only (take len out) _ (w .bytes) (w .reads) (w .normal) (w .same) in
+    let front : take len out ≡ bytes = sheet-normal first second out₀ e .only (take len out) _ (w .bytes) (w .reads) (w .normal) (w .labelling) (w .same) in
     let size : len ≡ length bytes = sym (length-take-le len out (j .room)) ∙ ap length front in
     let all : out ≡ bytes ++ drop (length bytes) out₀ =
     sym (take-append-drop len out) ∙ ap₂ (λ (x y : List ℕ). x ++ y) front (j .stays ∙ ap (λ (i : ℕ). drop i out₀) size) in
@@ -81,3 +100,15 @@ not-first-actions reply p = let z : _≡_ {A = ℕ} 2 0 = byte F1 wide (filled 1
 
 not-chain-order : (reply : Reply) → JoinPromise F1 by-target (filled 30) reply (header 3 2 2 ++ state 0 ++ state 1 ++ state 0 ++ by 2 1 2 ++ by 1 2 0) → ⊥
 not-chain-order reply p = let z : _≡_ {A = ℕ} 1 2 = byte F1 by-target (filled 30) 18 (cases .7) (cases .1) p in omega (arith, z)
+
+-- nor new names before the first's, actions matched by number, or the joined flow of named sheets as a plain one
+not-new-first : (reply : Reply) → JoinPromise open-first open-second (filled 58) reply
+    (named 2 2 2 (shuts ++ opens) ++ state 1 ++ state 2 ++ by 2 0 0 ++ by 2 1 0) → ⊥
+not-new-first reply p = let z : _≡_ {A = ℕ} 111 115 = byte open-first open-second (filled 58) 6 (named-cases .3) (named-cases .0) p in omega (arith, z)
+
+not-by-number : (reply : Reply) → JoinPromise open-first open-second (filled 58) reply
+    (named 2 2 2 (opens ++ shuts) ++ state 1 ++ state 2 ++ by 1 0 0 ++ by 2 1 0) → ⊥
+not-by-number reply p = let z : _≡_ {A = ℕ} 1 2 = byte open-first open-second (filled 58) 52 (named-cases .3) (named-cases .0) p in omega (arith, z)
+
+not-plain : (reply : Reply) → JoinPromise open-first open-second (filled 58) reply (header 2 2 2 ++ state 1 ++ state 2 ++ by 1 0 0 ++ by 1 1 0 ++ filled 32) → ⊥
+not-plain reply p = let z : _≡_ {A = ℕ} 128 0 = byte open-first open-second (filled 58) 1 (named-cases .3) (named-cases .0) p in omega (arith, z)

@@ -1,4 +1,5 @@
 pub mod Union
+pub mod Records
 pub mod Promise
 pub mod Answers
 mod Cases

@@ -1,8 +1,8 @@
 -- What is promised of join follows from the call's equation.
-use Prim.Native.Nat.{ℕ, _+_, _≤_}
+use Prim.Native.Nat.{ℕ, _≤_}
 use native.Mathlib.Omega.{arith}
-use mathlib.Core.Path.{_≡_, refl, sym, ap, subst, _∙_}
-use mathlib.Core.Bool.{cond}
+use mathlib.Core.Path.{_≡_, sym, ap, subst, subst₂, _∙_}
+use mathlib.Core.Bool.{cond, _||_}
 use mathlib.Core.List.{List, [], _∷_, _++_}
 use borrow.Author.Tests.{leb-true}
 use lib.Dec.{leb}
@@ -11,19 +11,21 @@ use lib.Seq.{take-append-seam, drop-append-seam}
 use Rattle.lts.specs.System.{Lts, terminationPreorder}
 use Rattle.lts.specs.Refinement.{coarsest}
 use Rattle.lts.specs.Union.{comparison, simulated}
+use Rattle.lts.specs.Labels.{joinedLabels, JoinedByLabel}
 use Rattle.lts.specs.declared.Refusal.{Refusal}
 use Rattle.lts.specs.declared.Refusal.the-variants.{Buffer}
-use Rattle.lts.specs.Rule.{_otherwise_, Nothing, First, broken, Reply, refused, given}
+use Rattle.lts.specs.Rule.{Nothing, First, broken, Reply, refused, given}
 use Rattle.lts.proofs.Rule.{kept, both-kept, passes, when-broken, when-kept}
 use Rattle.encoding.specs.Records.{headerOf}
+use Rattle.encoding.specs.Labels.{Labelling, labelsOf}
 use Rattle.encoding.specs.Denotation.{ltsOf}
-use Rattle.inputs.specs.Both.{bothRules}
+use Rattle.inputs.specs.Both.{joinedLts, bothRules}
 use Rattle.inputs.proofs.Joined.{both-joinable}
 use Rattle.normal_form.specs.NormalForm.{NormalForm}
 use Rattle.normal_form.proofs.Laws.{normal-form}
 use Rattle.comparison.specs.Call.{compareCall}
-use Rattle.disjoint_union.specs.Join.{JoinOutcome, joinedLts, joinedSheet, joinRules, joinCall, Joins, JoinPromise}
-use Rattle.disjoint_union.proofs.Union.{joined-encodable}
+use Rattle.disjoint_union.specs.Join.{JoinOutcome, joinedLabelling, joinedSheet, joinRules, joinCall, Joins, JoinPromise}
+use Rattle.disjoint_union.proofs.Union.{joined-encodable, joined-named}
 
 module _ (first second out₀ : List ℕ) where
   -- the reply of compare, on a sheet that denotes the joined flow
@@ -39,8 +41,21 @@ module _ (first second out₀ : List ℕ) where
     unfolding joinRules
     roomy = leb-true _ _ (kept (leb (length (joinedSheet first second)) (length out₀)) Buffer [] (both-kept (bothRules first second) _ e .1) .0)
 
-    pub sheet-normal : NormalForm (joinedLts first second) (joinedSheet first second)
-    sheet-normal = normal-form (joinedLts first second) (joined-encodable (both-joinable first second refl refl both))
+    pub sheet-normal : NormalForm (joinedLabelling first second) (joinedLts first second) (joinedSheet first second)
+    sheet-normal = normal-form (joinedLabelling first second) (joinedLts first second) (joined-encodable (both-joinable first second both))
+
+    -- the sheet's kind and labels
+    kind : headerOf (joinedSheet first second) .named ≡ (headerOf first .named || headerOf second .named)
+    unfolding joinedLabelling
+    kind = ap (λ (K : Labelling). K .named) (sheet-normal .labelling)
+
+    labels : labelsOf (joinedSheet first second) ≡ joinedLabels (labelsOf first) (labelsOf second)
+    unfolding joinedLabelling
+    labels = ap (λ (K : Labelling). K .labels) (sheet-normal .labelling)
+
+    named : JoinedByLabel (labelsOf first) (ltsOf first) (labelsOf second) (ltsOf second) (labelsOf (joinedSheet first second)) (ltsOf (joinedSheet first second))
+    named = subst₂ (JoinedByLabel (labelsOf first) (ltsOf first) (labelsOf second) (ltsOf second)) (sym labels) (sym (sheet-normal .same))
+        (joined-named (both-joinable first second both))
 
     compared : compareCall first second ≡ reply-on (joinedLts first second)
     unfolding compareCall simulated comparison ltsOf
@@ -58,7 +73,9 @@ module _ (first second out₀ : List ℕ) where
           room = omega (arith, roomy, long);
           stays = ap (drop (length bytes)) o ∙ drop-append-seam bytes _;
           long = long;
-          written = subst (NormalForm (joinedLts first second)) (sym front) sheet-normal;
+          written = subst (NormalForm (joinedLabelling first second) (joinedLts first second)) (sym front) sheet-normal;
+          kind = ap (λ (t : List ℕ). headerOf t .named) front ∙ kind;
+          joined = subst (λ (t : List ℕ). JoinedByLabel (labelsOf first) (ltsOf first) (labelsOf second) (ltsOf second) (labelsOf t) (ltsOf t)) (sym front) named;
           compares = compared ∙ ap reply-on (sym (sheet-normal .same) ∙ ap ltsOf (sym front));
         }
 

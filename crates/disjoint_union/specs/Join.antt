@@ -1,19 +1,20 @@
--- The call join: what it replies and leaves in its buffer, and what is promised of it.
+-- The call join: what it replies and leaves in its buffer, and what is promised of it (document 02, L2: actions matched by name).
 use Prim.Native.Nat.{ℕ, _≤_}
 use mathlib.Core.Path.{_≡_}
-use mathlib.Core.Bool.{cond}
+use mathlib.Core.Bool.{cond, _||_}
 use mathlib.Core.List.{List, [], _∷_, _++_}
 use lib.Dec.{leb}
 use lib.ListN.{length, take, drop}
-use Rattle.lts.specs.System.{Lts, terminationPreorder}
+use Rattle.lts.specs.System.{terminationPreorder}
 use Rattle.lts.specs.Refinement.{coarsest}
-use Rattle.lts.specs.Union.{disjointUnion}
+use Rattle.lts.specs.Labels.{joinedLabels, JoinedByLabel}
 use Rattle.lts.specs.declared.Refusal.{Refusal}
 use Rattle.lts.specs.declared.Refusal.the-variants.{Buffer}
 use Rattle.lts.specs.Rule.{Rule, _otherwise_, Nothing, First, broken, checked, Reply, refused, given}
 use Rattle.encoding.specs.Records.{headerOf}
+use Rattle.encoding.specs.Labels.{Labelling, labelsOf}
 use Rattle.encoding.specs.Denotation.{ltsOf}
-use Rattle.inputs.specs.Both.{bothRules}
+use Rattle.inputs.specs.Both.{joinedLts, bothRules}
 use Rattle.normal_form.specs.Normal.{normal}
 use Rattle.normal_form.specs.NormalForm.{NormalForm}
 use Rattle.comparison.specs.Call.{compareCall}
@@ -30,14 +31,17 @@ pub record JoinOutcome : Type 0 where
   pub reply : Reply
   pub out : List ℕ
 
--- the joined flow of two sheets, and the sheet that is written of it
-abbrev pub joinedLts : List ℕ → List ℕ → Lts
-joinedLts first second = disjointUnion (ltsOf first) (ltsOf second)
+-- the kind and labels of the joined flow: plain where both sheets are, otherwise named; and the sheet that is written
+unfoldable pub joinedLabelling : List ℕ → List ℕ → Labelling
+joinedLabelling first second = record {
+  named = headerOf first .named || headerOf second .named;
+  labels = joinedLabels (labelsOf first) (labelsOf second);
+}
 
 abbrev pub joinedSheet : List ℕ → List ℕ → List ℕ
-joinedSheet first second = normal (joinedLts first second)
+joinedSheet first second = normal (joinedLabelling first second) (joinedLts first second)
 
--- both sheets and the joined flow as for compare (1 to 7), then the buffer, which is at least as long as the sheet that is written (15)
+-- both sheets and the joined flow as for compare (1 to 7, 18), then the buffer, which is at least as long as the sheet that is written (15)
 unfoldable pub joinRules : List ℕ → List ℕ → List ℕ → List Rule
 joinRules first second out = bothRules first second ++ leb (length (joinedSheet first second)) (length out) otherwise Buffer ∷ []
 
@@ -56,8 +60,11 @@ pub record Joins (first second out₀ : List ℕ) (reply : Reply) (out : List �
   pub room : len ≤ length out
   pub stays : drop len out ≡ drop len out₀
   pub long : length out ≡ length out₀
-  -- they are read as the joined flow, in normal form, and no other bytes are
-  pub written : NormalForm (joinedLts first second) (take len out)
+  -- they are read as the joined flow with its kind and labels, in normal form, and no other bytes are
+  pub written : NormalForm (joinedLabelling first second) (joinedLts first second) (take len out)
+  -- the sheet is plain exactly if both sheets are, and is, with its labels, their joined flow by name
+  pub kind : headerOf (take len out) .named ≡ (headerOf first .named || headerOf second .named)
+  pub joined : JoinedByLabel (labelsOf first) (ltsOf first) (labelsOf second) (ltsOf second) (labelsOf (take len out)) (ltsOf (take len out))
   -- coarsest on them, from their end start and with an empty turn list, keeps (0, n), n the first sheet's states, exactly if compare says
   -- yes, with the same turns
   pub compares : let L = ltsOf (take len out) in let r = coarsest L (terminationPreorder L) [] in

@@ -1,9 +1,13 @@
+pub mod Sizes
 pub mod Chains
 pub mod Members
 pub mod OnChain
 pub mod Naming
+pub mod Labels
+pub mod Bytes
 pub mod Reader
 pub mod Denotation
 pub mod Counting
 pub mod Laws
 pub mod Sheets
+pub mod Twins

@@ -69,8 +69,9 @@ kept-readable s e =
     let e₆ = kept _ _ _ (e₅ .1) in
     let e₇ = kept _ _ _ (e₆ .1) in
     let e₈ = kept _ _ _ (e₇ .1) in
-    let recorded : Recorded s (headerOf s) = record { sized = record { bounds = in-range _ (e₂ .0); long = eqb-true _ _ (e₃ .0) }; states = e₄ .0; transitions = e₅ .0 } in
-    record { recorded = recorded; header = refl; chains = chains-kept s (headerOf s) recorded (e₆ .0) (e₇ .0); successors = e₈ .0 }
+    let e₉ = kept _ _ _ (e₈ .1) in
+    let recorded : Recorded s (headerOf s) = record { sized = record { bounds = in-range _ (e₂ .0); long = eqb-true _ _ (e₃ .0) }; states = e₅ .0; transitions = e₆ .0 } in
+    record { recorded = recorded; header = refl; labels = e₄ .0; chains = chains-kept s (headerOf s) recorded (e₇ .0) (e₈ .0); successors = e₉ .0 }
 
 pub readable-of : {s : List ℕ} {h : Header} → readEncoding s ≡ Readable h → ReadableAs s h
 readable-of {s} e = let k = sheet-kept s e in rw (k .1) (kept-readable s (k .0))
@@ -88,12 +89,13 @@ readable-kept {s} {h} g =
     let e₁ = pass _ _ _ (headed s (g .header)) (sym (le-leb 6 (length s) (omega arith))) refl in
     let e₂ = pass _ _ _ e₁ (sym (ranged h (g .recorded .sized .bounds))) refl in
     let e₃ = pass _ _ _ e₂ (sym (eq-eqb _ _ z)) refl in
-    let e₄ = pass _ _ _ e₃ (sym (g .recorded .states)) refl in
-    let e₅ = pass _ _ _ e₄ (sym (g .recorded .transitions)) refl in
+    let e₄ = pass _ _ _ e₃ (sym (g .labels)) refl in
+    let e₅ = pass _ _ _ e₄ (sym (g .recorded .states)) refl in
+    let e₆ = pass _ _ _ e₅ (sym (g .recorded .transitions)) refl in
     let c = kept-chains s h (g .recorded) (g .chains) in
-    let e₆ = pass _ _ _ e₅ (sym (c .0)) refl in
-    let e₇ = pass _ _ _ e₆ (sym (c .1)) refl in
-    done (pass _ _ _ e₇ (sym (g .successors)) refl)
+    let e₇ = pass _ _ _ e₆ (sym (c .0)) refl in
+    let e₈ = pass _ _ _ e₇ (sym (c .1)) refl in
+    done (pass _ _ _ e₈ (sym (g .successors)) refl)
 
 pub reads : (s : List ℕ) (h : Header) → ReadableAs s h → readEncoding s ≡ Readable h
 reads s h g = sym (sheet-passed s (g .header) (readable-kept g))

@@ -1,6 +1,7 @@
 -- The sheets of document 01 ("Flows on each side") and some more, as bytes.
 use Prim.Native.Nat.{ℕ}
 use mathlib.Core.List.{List, [], _∷_, _++_}
+use lib.ListN.{replicate}
 
 -- a header, state records and transition records, one after the other
 abbrev pub header : ℕ → ℕ → ℕ → List ℕ
@@ -74,6 +75,40 @@ joining = header 2 1 2 ++ state 1 ++ state 2 ++ transition 0 2 ++ transition 1 0
 -- two states name record 1, which goes on to record 2, which names itself
 abbrev pub doubled : List ℕ
 doubled = header 2 1 2 ++ state 1 ++ state 1 ++ transition 0 2 ++ transition 1 2
+
+-- a name and zeros behind it; "open" and "shut"
+abbrev pub name : List ℕ → ℕ → List ℕ
+name text zeros = text ++ replicate zeros 0
+
+abbrev pub opens : List ℕ
+opens = name (111 ∷ 112 ∷ 101 ∷ 110 ∷ []) 12
+
+abbrev pub shuts : List ℕ
+shuts = name (115 ∷ 104 ∷ 117 ∷ 116 ∷ []) 12
+
+-- the header of a named sheet, and its names
+abbrev pub named : ℕ → ℕ → ℕ → List ℕ → List ℕ
+named n m k names = n ∷ 128 ∷ m ∷ 0 ∷ k ∷ 0 ∷ names
+
+-- F3 with names; "open" its one action, and with its two transition records in the other order
+abbrev pub F3-named : ℕ → List ℕ → List ℕ
+F3-named m names = named 3 m 2 names ++ state 1 ++ state 0 ++ state 2 ++ transition 1 0 ++ transition 2 0
+
+abbrev pub F3-open : List ℕ
+F3-open = F3-named 1 opens
+
+abbrev pub F3-open-turned : List ℕ
+F3-open-turned = named 3 1 2 opens ++ state 2 ++ state 0 ++ state 1 ++ transition 2 0 ++ transition 1 0
+
+-- a page that opens and stays: "open" is action 1 of the one sheet and 2 of the other; and a plain sheet of the same shape
+abbrev pub open-first : List ℕ
+open-first = named 1 1 1 opens ++ state 1 ++ by 1 0 0
+
+abbrev pub open-second : List ℕ
+open-second = named 1 2 1 (shuts ++ opens) ++ state 1 ++ by 2 0 0
+
+abbrev pub loop : List ℕ
+loop = header 1 1 1 ++ state 1 ++ by 1 0 0
 
 -- one Lts, three times: in normal form; with its records ordered by target, then action; with its chain turned
 abbrev pub by-action : List ℕ

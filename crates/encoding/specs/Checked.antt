@@ -8,6 +8,7 @@ use lib.ListN.{length}
 use Rattle.encoding.specs.declared.Header.{Header}
 use Rattle.encoding.specs.declared.TransitionRecord.{TransitionRecord}
 use Rattle.encoding.specs.Records.{headerOf, encodingLength, stateRecord, transitionRecord}
+use Rattle.encoding.specs.Labels.{labelsFit}
 use Rattle.encoding.specs.Encoding.{statesFit, transitionsFit, reached, allReached, distinct, successorsFit}
 
 -- rule 2 holds
@@ -49,5 +50,6 @@ chainsFit s h = distinct (reached s h (h .states)) && allReached s h
 pub record ReadableAs (s : List ℕ) (h : Header) : Type 0 where
   pub recorded : Recorded s h
   pub header : h ≡ headerOf s
+  pub labels : labelsFit s h ≡ true
   pub chains : chainsFit s h ≡ true
   pub successors : successorsFit s h ≡ true

@@ -1,5 +1,5 @@
 -- The rules that make an encoding readable, and what reading it answers (document 01, "The sheet" and the table of refusals;
--- document 02, L1).
+-- document 02, L1 and L2).
 use Prim.Native.Nat.{ℕ, zero, suc, _+_, _*_}
 use mathlib.Core.Bool.{Bool, true, false, cond, not, _&&_, _||_}
 use mathlib.Core.List.{List, [], _∷_, _++_, map}
@@ -7,13 +7,14 @@ use lib.ListN.{length}
 use lib.Dec.{ltb, leb, eqb}
 use Rattle.lts.specs.Bounded.{allBelow, concatBelow, listBelow, lowest}
 use Rattle.lts.specs.Rule.{Rule, _otherwise_, checked}
-use Rattle.lts.specs.declared.Refusal.the-variants.{Length, Range, StateRecord as BadState, TransitionRecord as BadTransition, Unreached, ReachedTwice, Repeated}
+use Rattle.lts.specs.declared.Refusal.the-variants.{Length, Range, Label, StateRecord as BadState, TransitionRecord as BadTransition, Unreached, ReachedTwice, Repeated}
 use Rattle.encoding.specs.declared.Header.{Header}
 use Rattle.encoding.specs.declared.StateRecord.{StateRecord}
 use Rattle.encoding.specs.declared.TransitionRecord.{TransitionRecord}
 use Rattle.encoding.specs.declared.Reading.{Reading}
 use Rattle.encoding.specs.declared.Reading.the-variants.{Readable, Refused}
 use Rattle.encoding.specs.Records.{headerOf, encodingLength, stateRecord, transitionRecord}
+use Rattle.encoding.specs.Labels.{labelsFit}
 
 -- rule 2: n from 1 to 256, m to 64, k to 1,024
 unfoldable pub inRange : Header → Bool
@@ -98,6 +99,7 @@ headedRules s h =
     leb 6 (length s) otherwise Length
     ∷ inRange h otherwise Range
     ∷ eqb (length s) (encodingLength h) otherwise Length
+    ∷ labelsFit s h otherwise Label
     ∷ statesFit s h otherwise BadState
     ∷ transitionsFit s h otherwise BadTransition
     ∷ allReached s h otherwise Unreached (lowestRecord h (λ j. not (onSomeChain s h j)))

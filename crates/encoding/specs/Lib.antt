@@ -1,4 +1,5 @@
 pub mod Records
+pub mod Labels
 pub mod Encoding
 pub mod Denotation
 pub mod Checked

@@ -1,16 +1,19 @@
--- The call read: its reply, and what is promised of it (document 01, "The sheet"; document 02, L1).
-use Prim.Native.Nat.{ℕ, _≤_, _<_}
+-- The call read: its reply, and what is promised of it (document 01, "The sheet"; document 02, L1 and L2).
+use Prim.Native.Nat.{ℕ, suc, _≤_, _<_}
 use mathlib.Core.Path.{_≡_}
 use mathlib.Core.Logic.{_⊎_}
+use mathlib.Core.Bool.{true}
 use mathlib.Core.List.{List, [], _∷_}
 use lib.ListN.{length, getD}
 use Rattle.lts.specs.declared.Refusal.{Refusal}
 use Rattle.lts.specs.System.{WellFormed}
+use Rattle.lts.specs.Labels.{Labels}
 use Rattle.lts.specs.Rule.{Nothing, First, broken, Reply, refused, given}
 use Rattle.encoding.specs.declared.Header.{Header}
 use Rattle.encoding.specs.declared.Reading.{Reading}
 use Rattle.encoding.specs.declared.Reading.the-variants.{Readable, Refused}
-use Rattle.encoding.specs.Records.{headerOf, stateRecord, transitionRecord}
+use Rattle.encoding.specs.Records.{headerOf, labelRecord, stateRecord, transitionRecord}
+use Rattle.encoding.specs.Labels.{labelsOf, IsLabel}
 use Rattle.encoding.specs.Encoding.{reached, indices, occurrences, sheetRules}
 use Rattle.encoding.specs.Denotation.{ltsOf}
 use Rattle.lts.specs.Transitions.{transitions}
@@ -32,6 +35,8 @@ pub record Denoted (s : List ℕ) (h : Header) : Type 0 where
   pub states : ltsOf s .states ≡ h .states
   pub actions : ltsOf s .actions ≡ h .actions
   pub transitions : length (transitions (ltsOf s)) ≡ h .transitions
+  -- its actions have one label each, and no two the same
+  pub labels : Labels (labelsOf s) (ltsOf s)
 
 -- record j is on the chain of state p: p's first index names it, or the next index of a record on the chain does
 pub data OnChain (s : List ℕ) (h : Header) (p : ℕ) : ℕ → Type 0 where
@@ -62,10 +67,24 @@ pub record Lowest (h : Header) (Fault Sound : ℕ → Type 0) (j : ℕ) : Type 0
   pub fault : Fault j
   pub sound : (i : ℕ) → 1 ≤ i → i < j → Sound i
 
+-- the name of action i + 1 is a bad one, or that of action j + 1 too
+pub data Misnamed (s : List ℕ) (h : Header) : Type 0 where
+  bad : (i : ℕ) → i < h .actions → (IsLabel (labelRecord s h (suc i) .bytes) → ⊥) → Misnamed s h
+  repeated : (i j : ℕ) → i < j → j < h .actions → labelRecord s h (suc i) .bytes ≡ labelRecord s h (suc j) .bytes → Misnamed s h
+
+-- each name is a good one, and no two are the same
+pub record WellNamed (s : List ℕ) (h : Header) : Type 0 where
+  pub each : (i : ℕ) → i < h .actions → IsLabel (labelRecord s h (suc i) .bytes)
+  pub once : (i j : ℕ) → i < h .actions → j < h .actions → labelRecord s h (suc i) .bytes ≡ labelRecord s h (suc j) .bytes → i ≡ j
+
 -- What is promised of the reply.
 pub record ReadPromise (s : List ℕ) (reply : Reply) : Type 0 where
   -- the refusal of the first broken rule
   pub refuses : (r : Refusal) → broken (sheetRules s) ≡ First r → reply ≡ refused r
+  -- with 17 the sheet is a named one, and a name is a bad one or stands twice
+  pub misnamed : reply .refusal ≡ 17 → (headerOf s .named ≡ true) × Misnamed s (headerOf s)
+  -- with every other answer but 1 and 2, a named sheet's names are good and none stands twice
+  pub named : (reply .refusal ≡ 1 → ⊥) → (reply .refusal ≡ 2 → ⊥) → (reply .refusal ≡ 17 → ⊥) → headerOf s .named ≡ true → WellNamed s (headerOf s)
   -- with 5 the record is on no chain, and each lower one is on some chain
   pub unreached : reply .refusal ≡ 5
       → Lowest (headerOf s) (λ j. OnSomeChain s (headerOf s) j → ⊥) (OnSomeChain s (headerOf s)) (reply .recordNumber)

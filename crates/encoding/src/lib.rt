@@ -1,11 +1,14 @@
 // Encodings of labelled transition systems (document 01, "The sheet"): the records. Crate `reader` reads a whole encoding.
 ghost use Prim.Native.Nat.{_+_, _*_, _-_, _<_, _≤_};
 ghost use mathlib.Core.Path.{_≡_};
-ghost use lib.ListN.{length, getD};
+ghost use mathlib.Core.Bool.{true, cond};
+ghost use lib.ListN.{length};
 ghost use lib.Seq.{sets};
 ghost use Rattle.encoding.specs.Records.{numberAt, two, headerOf, headerBytes, stateRecordAt, stateBytes};
-ghost use Rattle.encoding.specs.Records.{transitionRecordAt, transitionBytes, stateAt, transitionAt, encodingLength};
-ghost use Rattle.encoding.specs.Records.{stateRecord, transitionRecord};
+ghost use Rattle.encoding.specs.Records.{transitionRecordAt, transitionBytes, labelRecordAt, labelBytes};
+ghost use Rattle.encoding.specs.Records.{labelsLength, labelAt, stateAt, transitionAt, encodingLength};
+ghost use Rattle.encoding.specs.Records.{labelRecords, labelRecord, stateRecord, transitionRecord};
+ghost use Rattle.encoding.specs.Labels.{visible, follows, labelFits, decimalLabel, labelIn};
 ghost use Rattle.encoding.specs.Encoding.{inRange, stateFits, transitionFits};
 ghost use Rattle.encoding.specs.Checked.{Bounds, Sized, Recorded, FirstKnown, TransitionKnown};
 
@@ -13,6 +16,13 @@ pub struct Header {
     pub states: usize,
     pub actions: usize,
     pub transitions: usize,
+    // Whether the actions have names.
+    pub named: bool,
+}
+
+// An action's name, and zeros behind it.
+pub struct LabelRecord {
+    pub bytes: [u8; 16],
 }
 
 pub struct StateRecord {
@@ -44,6 +54,20 @@ fn number_at(s: &[u8], at: usize) -> usize
     low + 256 * high
 }
 
+// Whether a byte may stand in a name.
+fn visible(x: u8) -> bool
+    ensures { λ r. ⌜ r ≡ visible x ⌝ }
+{
+    (33 <= x) & (x <= 126)
+}
+
+// Whether y may stand behind x in a label.
+fn follows(x: u8, y: u8) -> bool
+    ensures { λ r. ⌜ r ≡ follows x y ⌝ }
+{
+    (y == 0) | (visible(x) & visible(y))
+}
+
 // Writes a 16-bit number, low byte first.
 fn put_two(out: &mut [u8], at: usize, x: usize)
     requires { ⌜ at + 1 < length (now out) ⌝ }
@@ -56,13 +80,14 @@ fn put_two(out: &mut [u8], at: usize, x: usize)
 impl Header {
     pub const BYTES: usize = 6;
 
-    pub fn new(states: usize, actions: usize, transitions: usize) -> Header
-        ensures { λ r. ⌜ r ≡ record { states = states; actions = actions; transitions = transitions } ⌝ }
+    pub fn new(states: usize, actions: usize, transitions: usize, named: bool) -> Header
+        ensures { λ r. ⌜ r ≡ record { states = states; actions = actions; transitions = transitions; named = named } ⌝ }
     {
         Header {
             states: states,
             actions: actions,
             transitions: transitions,
+            named: named,
         }
     }
 
@@ -70,14 +95,31 @@ impl Header {
         requires { ⌜ 6 ≤ length (now s) ⌝ }
         ensures { λ r. ⌜ r ≡ headerOf (now (s .entry)) ⌝ }
     {
-        Header::new(number_at(s, 0), number_at(s, 2), number_at(s, 4))
+        let first = number_at(s, 0);
+        Header::new(
+            first % 32768,
+            number_at(s, 2),
+            number_at(s, 4),
+            first >= 32768,
+        )
+    }
+
+    // The first number.
+    fn first(self) -> usize
+        requires { ⌜ self .states < 32768 ⌝ }
+        ensures { λ r. ⌜ r ≡ self .states + cond (self .named) 32768 0 ⌝ }
+    {
+        if self.named {
+            return self.states + 32768;
+        }
+        self.states
     }
 
     pub fn put(self, out: &mut [u8])
-        requires { ⌜ 6 ≤ length (now out) ⌝ }
+        requires { ⌜ (6 ≤ length (now out)) × (self .states < 32768) ⌝ }
         ensures { λ r. ⌜ now (out .exit) ≡ sets (now (out .entry)) 0 (headerBytes self) ⌝ }
     {
-        put_two(out, 0, self.states);
+        put_two(out, 0, self.first());
         put_two(out, 2, self.actions);
         put_two(out, 4, self.transitions);
     }
@@ -92,12 +134,28 @@ impl Header {
             & (self.transitions <= 1024)
     }
 
+    // The length of all label records. (No branch: the sum of a record's place is then as short as without names.)
+    pub fn labels_length(self) -> usize
+        requires { ⌜ Bounds self ⌝ }
+        ensures { λ r. ⌜ r ≡ labelsLength self ⌝ }
+    {
+        LabelRecord::BYTES * self.actions * (self.named as usize)
+    }
+
+    // Where the label record of action a, from 1, starts.
+    pub fn label_at(self, a: usize) -> usize
+        requires { ⌜ (1 ≤ a) × (a ≤ 65) ⌝ }
+        ensures { λ r. ⌜ r ≡ labelAt self a ⌝ }
+    {
+        Header::BYTES + LabelRecord::BYTES * (a - 1)
+    }
+
     // Where the record of state p starts.
     pub fn state_at(self, p: usize) -> usize
         requires { ⌜ (Bounds self) × (p ≤ self .states) ⌝ }
         ensures { λ r. ⌜ r ≡ stateAt self p ⌝ }
     {
-        Header::BYTES + StateRecord::BYTES * p
+        Header::BYTES + self.labels_length() + StateRecord::BYTES * p
     }
 
     // Where transition record j, from 1, starts.
@@ -115,6 +173,64 @@ impl Header {
         ensures { λ r. ⌜ r ≡ encodingLength self ⌝ }
     {
         self.transition_at(self.transitions + 1)
+    }
+}
+
+impl LabelRecord {
+    pub const BYTES: usize = 16;
+
+    pub fn new(bytes: [u8; 16]) -> LabelRecord
+        ensures { λ r. ⌜ r ≡ record { bytes = bytes } ⌝ }
+    {
+        LabelRecord { bytes: bytes }
+    }
+
+    // The name of action a in a plain sheet.
+    fn decimal(a: usize) -> LabelRecord
+        requires { ⌜ a ≤ 64 ⌝ }
+        ensures { λ r. ⌜ r .bytes ≡ decimalLabel a ⌝ }
+    {
+        let mut bytes = [0u8; 16];
+        report::put_decimal(&mut bytes, 0, a);
+        LabelRecord::new(bytes)
+    }
+
+    fn read(s: &[u8], at: usize) -> LabelRecord
+        requires { ⌜ at + 15 < length (now s) ⌝ }
+        ensures { λ r. ⌜ r ≡ labelRecordAt (now (s .entry)) at ⌝ }
+    {
+        let mut bytes = [0u8; 16];
+        let mut d = 0;
+        while d < 16 {
+            bytes[d] = s[at + d];
+            d += 1;
+        }
+        LabelRecord::new(bytes)
+    }
+
+    pub fn put(self, out: &mut [u8], at: usize)
+        requires { ⌜ at + 15 < length (now out) ⌝ }
+        ensures { λ r. ⌜ now (out .exit) ≡ sets (now (out .entry)) at (labelBytes self) ⌝ }
+    {
+        let mut d = 0;
+        while d < 16 {
+            out[at + d] = self.bytes[d];
+            d += 1;
+        }
+    }
+
+    // Whether it is a name of 1 to 16 bytes, then zeros.
+    pub fn fits(self) -> bool
+        ensures { λ r. ⌜ r ≡ labelFits (self .bytes) ⌝ }
+    {
+        let mut d = 0;
+        while d < 15 {
+            if !follows(self.bytes[d], self.bytes[d + 1]) {
+                return false;
+            }
+            d += 1;
+        }
+        visible(self.bytes[0])
     }
 }
 
@@ -195,6 +311,34 @@ impl TransitionRecord {
             & (self.target < h.states)
             & (self.next <= h.transitions)
     }
+}
+
+// The label record of action a, from 1.
+pub fn label_record(s: &[u8], h: Header, a: usize) -> LabelRecord
+    requires { ⌜ (Sized (now s) h) × (h .named ≡ true) × (1 ≤ a) × (a ≤ h .actions) ⌝ }
+    ensures { λ r. ⌜ r ≡ labelRecord (now (s .entry)) h a ⌝ }
+{
+    LabelRecord::read(s, h.label_at(a))
+}
+
+// The bytes of all label records.
+pub fn label_bytes(s: &[u8], h: Header) -> &[u8]
+    requires { ⌜ Sized (now s) h ⌝ }
+    ensures { λ r. ⌜ now r ≡ labelRecords (now (s .entry)) h ⌝ }
+{
+    let end = h.state_at(0);
+    &s[Header::BYTES..end]
+}
+
+// The label of action a, from 1: its record, or in a plain sheet its decimal digits.
+pub fn label(s: &[u8], h: Header, a: usize) -> LabelRecord
+    requires { ⌜ (Sized (now s) h) × (1 ≤ a) × (a ≤ h .actions) ⌝ }
+    ensures { λ r. ⌜ r .bytes ≡ labelIn (now (s .entry)) h a ⌝ }
+{
+    if h.named {
+        return label_record(s, h, a);
+    }
+    LabelRecord::decimal(a)
 }
 
 // The record of state p.

@@ -11,7 +11,7 @@ fn print(sheet: &[u8], text: &[u8])
 
 // At most one byte more than the longest sheet is read: a longer input has the wrong length already.
 fn main() {
-    let mut sheet = [0u8; 7175];
+    let mut sheet = [0u8; 8199];
     let mut text = [0u8; 266304];
     let read = io::read_full(libc::STDIN_FILENO, &mut sheet);
     let size = listing::put_flow(&sheet[..read], &mut text);

@@ -11,7 +11,8 @@ use Rattle.lts.specs.Game.{defenderLoses, challengerWins}
 use Rattle.lts.specs.declared.Refusal.the-variants.{Length, NotReflexive, NoState, TooManyRounds}
 use Rattle.lts.specs.Rule.{broken, checked, Reply, given, refused}
 use Rattle.encoding.proofs.Sheets.{F3}
-use Rattle.encoding.specs.Records.{numberAt, headerOf, stateRecordAt, transitionRecordAt, stateRecord, transitionRecord}
+use Rattle.encoding.specs.Records.{numberAt, headerOf, labelsLength, stateRecordAt, transitionRecordAt, stateRecord, transitionRecord}
+use Rattle.encoding.specs.Labels.{labelsFit}
 use Rattle.encoding.specs.Encoding.{inRange, stateFits, statesFit, transitionFits, transitionsFit, walk, chain, reached, member, onSomeChain, allReached, indices, occurrences, namedTwice, noneTwice, distinct, successor, successorsFit, headedRules, sheetRules}
 use Rattle.encoding.specs.Denotation.{any, ltsOf}
 use Rattle.rows.specs.Rows.{bit}
@@ -27,7 +28,7 @@ all = 7 ∷ 7 ∷ 7 ∷ []
 cases : (playCall F3 all 2 0 1 ≡ given (0 ∷ [])) × (playCall F3 all 2 0 2 ≡ given (1 ∷ []))
     × (playCall (F3 ++ 0 ∷ []) (0 ∷ 0 ∷ 0 ∷ []) 3 0 7 ≡ refused Length) × (playCall F3 (0 ∷ 0 ∷ 0 ∷ []) 3 0 7 ≡ refused NotReflexive)
     × (playCall F3 all 0 3 7 ≡ refused NoState) × (playCall F3 all 2 0 7 ≡ refused TooManyRounds)
-unfolding anyBelow allBelow concatBelow allStates anyState anyAction defenderLoses challengerWins broken checked numberAt headerOf stateRecordAt transitionRecordAt stateRecord transitionRecord inRange stateFits statesFit transitionFits transitionsFit walk chain reached member listBelow lowest onSomeChain allReached indices occurrences namedTwice noneTwice distinct successor successorsFit headedRules sheetRules any ltsOf bit inMatrix reflexiveBelow transitivePair transitiveAt transitiveBelow isMatrix startRules inputRules pairRules playRules playCall
+unfolding anyBelow allBelow concatBelow allStates anyState anyAction defenderLoses challengerWins broken checked numberAt headerOf labelsLength labelsFit stateRecordAt transitionRecordAt stateRecord transitionRecord inRange stateFits statesFit transitionFits transitionsFit walk chain reached member listBelow lowest onSomeChain allReached indices occurrences namedTwice noneTwice distinct successor successorsFit headedRules sheetRules any ltsOf bit inMatrix reflexiveBelow transitivePair transitiveAt transitiveBelow isMatrix startRules inputRules pairRules playRules playCall
 cases = (refl, refl, refl, refl, refl, refl)
 
 -- yes is not no
@@ -36,9 +37,9 @@ not-both e = let f = ap (λ (r : Reply). r .values) e in let z : _≡_ {A = ℕ}
 
 -- the promise refuses a win with one round, and none with two
 not-early : PlayPromise F3 all 2 0 1 (given (1 ∷ [])) → ⊥
-unfolding anyBelow allBelow concatBelow restrict allStates anyState allActions into answered round broken numberAt headerOf stateRecordAt transitionRecordAt stateRecord transitionRecord inRange stateFits statesFit transitionFits transitionsFit walk chain reached member listBelow lowest onSomeChain allReached indices occurrences namedTwice noneTwice distinct successor successorsFit headedRules sheetRules any ltsOf bit inMatrix reflexiveBelow transitivePair transitiveAt transitiveBelow isMatrix startRules inputRules pairRules playRules
+unfolding anyBelow allBelow concatBelow restrict allStates anyState allActions into answered round broken numberAt headerOf labelsLength labelsFit stateRecordAt transitionRecordAt stateRecord transitionRecord inRange stateFits statesFit transitionFits transitionsFit walk chain reached member listBelow lowest onSomeChain allReached indices occurrences namedTwice noneTwice distinct successor successorsFit headedRules sheetRules any ltsOf bit inMatrix reflexiveBelow transitivePair transitiveAt transitiveBelow isMatrix startRules inputRules pairRules playRules
 not-early p = ⊎-elim (λ x. x .1) (λ x. not-both (x .0)) (p .answers refl)
 
 not-never : PlayPromise F3 all 2 0 2 (given (0 ∷ [])) → ⊥
-unfolding anyBelow allBelow concatBelow restrict allStates anyState allActions into answered round broken numberAt headerOf stateRecordAt transitionRecordAt stateRecord transitionRecord inRange stateFits statesFit transitionFits transitionsFit walk chain reached member listBelow lowest onSomeChain allReached indices occurrences namedTwice noneTwice distinct successor successorsFit headedRules sheetRules any ltsOf bit inMatrix reflexiveBelow transitivePair transitiveAt transitiveBelow isMatrix startRules inputRules pairRules playRules
+unfolding anyBelow allBelow concatBelow restrict allStates anyState allActions into answered round broken numberAt headerOf labelsLength labelsFit stateRecordAt transitionRecordAt stateRecord transitionRecord inRange stateFits statesFit transitionFits transitionsFit walk chain reached member listBelow lowest onSomeChain allReached indices occurrences namedTwice noneTwice distinct successor successorsFit headedRules sheetRules any ltsOf bit inMatrix reflexiveBelow transitivePair transitiveAt transitiveBelow isMatrix startRules inputRules pairRules playRules
 not-never p = ⊎-elim (λ x. not-both (sym (x .0))) (λ x. x .1 tt) (p .answers refl)

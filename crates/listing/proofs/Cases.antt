@@ -8,7 +8,8 @@ use Rattle.lts.specs.System.{allStates, anyState, allActions, into, termination
 use Rattle.lts.specs.Refinement.{initial, block, representative, isRepresentative, pending, remove, split, prune, refine}
 use Rattle.lts.specs.Refinement.{eachAction, stepOf, chosen, step, run, coarsest, pairCount, blockCount}
 use Rattle.lts.specs.Rule.{broken, checked}
-use Rattle.encoding.specs.Records.{numberAt, headerOf, stateRecordAt, transitionRecordAt, stateRecord, transitionRecord}
+use Rattle.encoding.specs.Records.{numberAt, headerOf, labelsLength, stateRecordAt, transitionRecordAt, stateRecord, transitionRecord}
+use Rattle.encoding.specs.Labels.{labelsFit}
 use Rattle.encoding.specs.Encoding.{inRange, stateFits, statesFit, transitionFits, transitionsFit}
 use Rattle.encoding.specs.Encoding.{walk, chain, reached, member, onSomeChain, allReached, indices, occurrences, namedTwice, noneTwice, distinct, successor, successorsFit, headedRules, sheetRules}
 use Rattle.encoding.specs.Denotation.{any, ltsOf}
@@ -28,7 +29,7 @@ text =
 cases : (flowText F3 ≡ text) × (flowText F8 ≡ 114 ∷ 101 ∷ 102 ∷ 117 ∷ 115 ∷ 101 ∷ 100 ∷ 32 ∷ 49 ∷ 10 ∷ [])
 unfolding text xor anyBelow allBelow sumBelow countBelow passing concatBelow listBelow lowest restrict allStates anyState allActions into
     terminationPreorder initial block representative isRepresentative pending remove split prune refine eachAction stepOf chosen step run coarsest
-    pairCount blockCount numberAt headerOf stateRecordAt transitionRecordAt stateRecord transitionRecord inRange stateFits statesFit transitionFits
+    pairCount blockCount numberAt headerOf labelsLength labelsFit stateRecordAt transitionRecordAt stateRecord transitionRecord inRange stateFits statesFit transitionFits
     transitionsFit walk chain reached member onSomeChain allReached indices occurrences namedTwice noneTwice distinct successor successorsFit headedRules sheetRules broken checked any ltsOf decimalIn decimal headLine
     relatedText stateLine refusedLine systemText flowText
 cases = (refl, refl)

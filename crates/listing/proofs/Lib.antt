@@ -3,3 +3,4 @@ mod Texts
 mod Calls
 mod Bound
 mod Cases
+pub mod Twins

@@ -1,5 +1,5 @@
 -- Laws of truth values and of the tests, sums, lists and lowest numbers below a bound. Assumes nothing.
-use mathlib.Core.Path.{_≡_, refl, sym, ap, ap₂, _∙_}
+use mathlib.Core.Path.{_≡_, refl, sym, ap, ap₂, _∙_, fun-ext}
 use mathlib.Core.Bool.{Bool, true, false, cond, not, _&&_, _||_}
 use mathlib.Core.List.{List, [], _∷_, _++_, append-nil}
 use mathlib.Core.Logic.{_⊎_, inl, inr, ⊎-elim}
@@ -47,6 +47,10 @@ and-fst false b e = e
 pub and-snd : (a b : Bool) → a && b ≡ true → b ≡ true
 and-snd true b e = e
 and-snd false b e = absurd (clash e refl)
+
+pub neither : (a b : Bool) → a || b ≡ false → (a ≡ false) × (b ≡ false)
+neither false b e = (refl, e)
+neither true b e = absurd (clash refl e)
 
 pub regroup : (a b c : Bool) → (b || (a || c)) ≡ ((a || b) || c)
 regroup true true c = refl
@@ -265,13 +269,13 @@ list-ext k f l e same =
 pub listBelow-cong : (k : ℕ) (f g : ℕ → ℕ) → ((i : ℕ) → i < k → f i ≡ g i) → listBelow k f ≡ listBelow k g
 listBelow-cong k f g same = list-ext k g (listBelow k f) (length-listBelow k f) (λ i h. getD-listBelow 0 k f i h ∙ same i h)
 
-pub listBelow-add : (a b : ℕ) (f : ℕ → ℕ) → listBelow (a + b) f ≡ listBelow a f ++ listBelow b (λ i. f (a + i))
+pub listBelow-add : {A : Type 0} (a b : ℕ) (f : ℕ → A) → listBelow (a + b) f ≡ listBelow a f ++ listBelow b (λ i. f (a + i))
 unfolding listBelow
-listBelow-add zero b f = ap (λ (k : ℕ). listBelow k f) (zero-add b) ∙ listBelow-cong b f (λ i. f (0 + i)) (λ i h. ap f (sym (zero-add i)))
-listBelow-add (suc a) b f =
+listBelow-add zero b f = ap (λ (k : ℕ). listBelow k f) (zero-add b) ∙ ap (listBelow b) (fun-ext (λ i. ap f (sym (zero-add i))))
+listBelow-add {A} (suc a) b f =
     ap (λ (k : ℕ). listBelow k f) (suc-add a b)
-    ∙ ap (λ (t : List ℕ). f 0 ∷ t)
-    (listBelow-add a b (λ i. f (suc i)) ∙ ap (λ (t : List ℕ). listBelow a (λ i. f (suc i)) ++ t) (listBelow-cong b _ _ (λ i h. ap f (sym (suc-add a i)))))
+    ∙ ap (λ (t : List A). f 0 ∷ t)
+    (listBelow-add a b (λ i. f (suc i)) ∙ ap (λ (g : ℕ → A). listBelow a (λ i. f (suc i)) ++ listBelow b g) (fun-ext (λ i. ap f (sym (suc-add a i)))))
 
 -- ---- a loop that fills a list from the front, one store a turn: after n turns it is `listBelow n f ++ drop n d`
 

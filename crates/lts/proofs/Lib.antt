@@ -17,3 +17,8 @@ pub mod Below
 pub mod Lists
 pub mod Transitions
 pub mod Mapped
+pub mod Places
+pub mod Carried
+pub mod Labels
+pub mod ByLabel
+pub mod LabelCases

@@ -1,17 +1,17 @@
 -- Laws of loops that test every number below a bound, of lists whose every element keeps a property, of the numbers that pass a test,
 -- and of lists one after the other. Assumes nothing.
-use Prim.Native.Nat.{ℕ, zero, suc, _+_, _-_, _≤_, _<_}
+use Prim.Native.Nat.{ℕ, zero, suc, _+_, _*_, _≤_, _<_, suc-le-suc}
 use mathlib.Core.Path.{_≡_, refl, sym, ap, ap₂, _∙_}
-use mathlib.Core.Bool.{Bool, true, false, not, cond, _||_, and-eq-true-iff, and-false}
+use mathlib.Core.Bool.{Bool, true, false, not, cond, _||_, and-false}
 use mathlib.Core.List.{List, [], _∷_, _++_, map, append-assoc, append-nil}
 use mathlib.Core.Logic.{_⊎_, inl, inr, ⊎-elim}
 use native.Mathlib.Omega.{arith}
 use native.Mathlib.Numerals.{add-one}
-use native.Mathlib.Nat.{not-suc-le-zero, le-refl, le-of-suc-le-suc, eq-or-lt-of-le, add-zero, add-suc, suc-add}
+use native.Mathlib.Nat.{not-suc-le-zero, zero-lt-suc, le-refl, le-of-suc-le-suc, eq-or-lt-of-le, add-zero, add-suc, suc-add, mul-zero, mul-suc}
 use native.Mathlib.Decide.{decLe}
 use borrow.Author.Tests.{eq-eqb, ne-eqb, not-true, not-false}
-use lib.ListN.{length, getD, set, length-append, List·getD-append}
-use lib.Seq.{sets, getD-append-add, getD-append-seam}
+use lib.ListN.{length, getD, set, take, length-append, List·getD-append}
+use lib.Seq.{sets, take-suc, take-all, length-take-le, getD-append-add, getD-append-seam}
 use lib.Dec.{eqb}
 use Rattle.lts.specs.Bounded.{allBelow, sumBelow, countBelow, passing, concatBelow}
 use Rattle.lts.proofs.Bounded.{below-suc}
@@ -61,6 +61,10 @@ module _ {ℓ} {A : Type ℓ} where
   every-at P d [] j e k = absurd (not-suc-le-zero k)
   every-at P d (x ∷ l) zero e k = e .0
   every-at P d (x ∷ l) (suc j) e k = every-at P d l j (e .1) (omega arith)
+
+  pub every-of : (P : A → Type 0) (d : A) (l : List A) → ((i : ℕ) → i < length l → P (getD l i d)) → Every P l
+  every-of P d [] f = tt
+  every-of P d (x ∷ l) f = (f 0 (zero-lt-suc (length l)), every-of P d l (λ i u. f (suc i) (suc-le-suc u)))
 
   pub every-more : (P Q : A → Type 0) (l : List A) → ((x : A) → P x → Q x) → Every P l → Every Q l
   every-more P Q [] f e = tt
@@ -204,6 +208,13 @@ module _ {ℓ} {A : Type ℓ} (f : ℕ → List A) where
   concat-grows (suc n) i l =
       ⊎-elim (λ (k : i ≤ n). omega (arith, concat-length n, concat-grows n i k)) (λ (k : i ≡ suc n). rw k (le-refl _)) (split n i l)
 
+  -- of length k each
+  pub concat-each : (k n : ℕ) → ((i : ℕ) → i < n → length (f i) ≡ k) → length (concatBelow n f) ≡ k * n
+  unfolding concatBelow
+  concat-each k zero e = sym (mul-zero k)
+  concat-each k (suc n) e =
+      rw (length-append, concat-each k n (λ i l. e i (omega arith)), e n (le-refl _), mul-suc)
+
   -- what stands before f j, and what stands in f j
   pub concat-before : (d : A) (n j i : ℕ) → j ≤ n → i < length (concatBelow j f) → getD (concatBelow n f) i d ≡ getD (concatBelow j f) i d
   unfolding concatBelow
@@ -239,3 +250,12 @@ concat-same (suc n) f g e = rw (concat-same n f g (λ i l. e i (omega arith)), e
 pub sets-append : (l : List ℕ) (i : ℕ) (vs ws : List ℕ) → sets l i (vs ++ ws) ≡ sets (sets l i vs) (i + length vs) ws
 sets-append l i [] ws = rw add-zero
 sets-append l i (v ∷ vs) ws = rw (sets-append (set l i v) (suc i) vs ws, add-suc, suc-add)
+
+-- a turn of the loop that writes a list, and its end
+pub sets-more : (l : List ℕ) (at : ℕ) (vs : List ℕ) (d : ℕ) → d < length vs → set (sets l at (take d vs)) (at + d) (getD vs d 0) ≡ sets l at (take (d + 1) vs)
+sets-more l at vs d h =
+    let e : length (take d vs) ≡ d = length-take-le d vs (omega arith) in
+    rw (add-one, take-suc vs d 0 h, sets-append, e)
+
+pub sets-done : (l : List ℕ) (at : ℕ) (vs : List ℕ) (d : ℕ) {now : List ℕ} → now ≡ sets l at (take d vs) → length vs ≤ d → now ≡ sets l at vs
+sets-done l at vs d e h = e ∙ rw (take-all d vs h)

@@ -107,9 +107,53 @@ mapped-cong n m f g f′ g′ L states actions = λ x.
         any-cong (L .actions) _ _ (λ b l. ap₂ _&&_ (ap (λ (y : ℕ). eqb y a) (actions (suc b) (omega arith) l))
         (any-cong (L .states) _ _ (λ t k. ap (λ (y : Bool). L .transition p (suc b) t && y) (at t j k))))
 
+-- ---- the image of an image is the image under the composed maps
+
+module _ (n m : ℕ) (f g : ℕ → ℕ) {k l : ℕ} {f′ g′ : ℕ → ℕ} {L : Lts} (wf : WellFormed L) (ok : Sends k l f′ g′ L) where
+  abbrev inner : Lts
+  inner = mapped k l f′ g′ L
+
+  abbrev direct : Lts
+  direct = mapped n m (λ p. f (f′ p)) (λ b. g (g′ b)) L
+
+  composed-transition : (i a j : ℕ) → mapped n m f g inner .transition i a j ≡ direct .transition i a j
+  composed-transition i a j =
+      test-ext (mapped n m f g inner .transition i a j) (direct .transition i a j)
+      (λ u.
+      let (p, b, t, v, ep, eb, et) = mapped-iff n m f g inner (mapped-formed wf ok) i a j .0 u in
+      let (q, c, r, w, eq, ec, er) = mapped-iff k l f′ g′ L wf p b t .0 v in
+      mapped-iff n m (λ p. f (f′ p)) (λ b. g (g′ b)) L wf i a j .1 (q, c, r, w, ap f eq ∙ ep, ap g ec ∙ eb, ap f er ∙ et))
+      (λ u.
+      let (q, c, r, w, ep, eb, et) = mapped-iff n m (λ p. f (f′ p)) (λ b. g (g′ b)) L wf i a j .0 u in
+      let v = mapped-iff k l f′ g′ L wf (f′ q) (g′ c) (f′ r) .1 (q, c, r, w, refl, refl, refl) in
+      mapped-iff n m f g inner (mapped-formed wf ok) i a j .1 (f′ q, g′ c, f′ r, v, ep, eb, et))
+
+  composed-terminating : (i : ℕ) → mapped n m f g inner .terminating i ≡ direct .terminating i
+  unfolding mapped
+  composed-terminating i =
+      test-ext (mapped n m f g inner .terminating i) (direct .terminating i)
+      (λ u.
+      let (p, _, v, ep) = mapped-terminating-iff n m f g inner i .0 u in
+      let (q, low, w, eq) = mapped-terminating-iff k l f′ g′ L p .0 v in
+      mapped-terminating-iff n m (λ p. f (f′ p)) (λ b. g (g′ b)) L i .1 (q, low, w, ap f eq ∙ ep))
+      (λ u.
+      let (q, low, w, ep) = mapped-terminating-iff n m (λ p. f (f′ p)) (λ b. g (g′ b)) L i .0 u in
+      let v = mapped-terminating-iff k l f′ g′ L (f′ q) .1 (q, low, w, refl) in
+      mapped-terminating-iff n m f g inner i .1 (f′ q, ok .state q low, v, ep))
+
+  pub mapped-composed : mapped n m f g (mapped k l f′ g′ L) ≡ mapped n m (λ p. f (f′ p)) (λ b. g (g′ b)) L
+  unfolding mapped
+  mapped-composed = λ x.
+      record {
+        states = n;
+        actions = m;
+        terminating = fun-ext composed-terminating x;
+        transition = fun-ext (λ i. fun-ext (λ a. fun-ext (composed-transition i a))) x;
+      }
+
 -- ---- maps that keep every number
 
-move : (L : Lts) {p b r i a t : ℕ} → p ≡ i → b ≡ a → r ≡ t → T (L .transition p b r) → T (L .transition i a t)
+pub move : (L : Lts) {p b r i a t : ℕ} → p ≡ i → b ≡ a → r ≡ t → T (L .transition p b r) → T (L .transition i a t)
 move L ep eb er u = rw (← ep, ← eb, ← er) u
 
 module _ (n m : ℕ) (f g : ℕ → ℕ) (L : Lts) (states : (p : ℕ) → p < L .states → f p ≡ p) where
@@ -127,7 +171,7 @@ module _ (n m : ℕ) (f g : ℕ → ℕ) (L : Lts) (states : (p : ℕ) → p < L
       let l = wf .action i a t u in
       mapped-iff n m f g L wf i a t .1 (i, a, t, u, states i (wf .source i a t u), actions a (l .0) (l .1), states t (wf .target i a t u)))
 
-  self-terminating : (i : ℕ) → i < L .states → mapped n m f g L .terminating i ≡ L .terminating i
+  pub self-terminating : (i : ℕ) → i < L .states → mapped n m f g L .terminating i ≡ L .terminating i
   self-terminating i l =
       test-ext (mapped n m f g L .terminating i) (L .terminating i)
       (λ u. let (p, k, v, e) = mapped-terminating-iff n m f g L i .0 u in let d = sym (states p k) ∙ e in rw (← d) v)

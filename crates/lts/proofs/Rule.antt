@@ -9,11 +9,11 @@ use lib.Dec.{T}
 use lib.ListN.{getD, drop}
 use borrow.Author.Tests.{not-true, not-false}
 use Rattle.lts.specs.declared.Refusal.{Refusal}
-use Rattle.lts.specs.declared.Refusal.the-variants.{Length, Range, StateRecord, TransitionRecord, Unreached, ReachedTwice, Repeated, TooLarge, Grid, NotReflexive, NotTransitive, NoState, TooManyRounds, StillRelated, Unsound, Buffer}
+use Rattle.lts.specs.declared.Refusal.the-variants.{Length, Range, Label, StateRecord, TransitionRecord, Unreached, ReachedTwice, Repeated, TooLarge, Grid}
+use Rattle.lts.specs.declared.Refusal.the-variants.{TooManyLabels, NotReflexive, NotTransitive, NoState, TooManyRounds, StillRelated, Unsound, Buffer}
 use Rattle.lts.specs.Refusal.{refusalNumber, refusalRecord}
-use Rattle.lts.specs.declared.Checked.{Checked}
 use Rattle.lts.specs.declared.Checked.the-variants.{Passed, Refused}
-use Rattle.lts.specs.Rule.{Rule, _otherwise_, Finding, Nothing, First, broken, checked, Reply, refused, given, check, Decides}
+use Rattle.lts.specs.Rule.{Rule, _otherwise_, Finding, Nothing, First, broken, checked, Reply, given, check, Decides}
 
 -- ## A sequence of checks: what all the rules come to is what is left of them after the first k, which are kept
 abbrev pub After : ℕ → List Rule → Type 0
@@ -101,18 +101,22 @@ finding rules = go (broken rules) refl
 
 -- ## Numbers: no refusal has the number 0 or one of more than 8 bits, and no two have the same number and record
 listed : ℕ → ℕ → Refusal
-listed k j = getD (Length ∷ Length ∷ Range ∷ StateRecord ∷ TransitionRecord ∷ Unreached j ∷ Repeated ∷ TooLarge ∷ Grid ∷ NotReflexive ∷ NotTransitive ∷ NoState ∷ TooManyRounds ∷ StillRelated ∷ Unsound ∷ Buffer ∷ ReachedTwice j ∷ []) k Length
+listed k j =
+    getD (Length ∷ Length ∷ Range ∷ StateRecord ∷ TransitionRecord ∷ Unreached j ∷ Repeated ∷ TooLarge ∷ Grid ∷ NotReflexive ∷ NotTransitive ∷ NoState
+    ∷ TooManyRounds ∷ StillRelated ∷ Unsound ∷ Buffer ∷ ReachedTwice j ∷ Label ∷ TooManyLabels ∷ []) k Length
 
 number-law : (r : Refusal) → (1 ≤ refusalNumber r) × (refusalNumber r < 256) × (listed (refusalNumber r) (refusalRecord r) ≡ r)
 unfolding listed
 number-law Length = (omega arith, omega arith, refl)
 number-law Range = (omega arith, omega arith, refl)
+number-law Label = (omega arith, omega arith, refl)
 number-law StateRecord = (omega arith, omega arith, refl)
 number-law TransitionRecord = (omega arith, omega arith, refl)
 number-law (Unreached j) = (omega arith, omega arith, refl)
 number-law (ReachedTwice j) = (omega arith, omega arith, refl)
 number-law Repeated = (omega arith, omega arith, refl)
 number-law TooLarge = (omega arith, omega arith, refl)
+number-law TooManyLabels = (omega arith, omega arith, refl)
 number-law Grid = (omega arith, omega arith, refl)
 number-law NotReflexive = (omega arith, omega arith, refl)
 number-law NotTransitive = (omega arith, omega arith, refl)
@@ -138,12 +142,14 @@ AboutNone x = (x ≡ 5 → ⊥) × (x ≡ 16 → ⊥)
 pub no-record : (r : Refusal) → AboutNone (refusalNumber r) → refusalRecord r ≡ 0
 no-record Length n = refl
 no-record Range n = refl
+no-record Label n = refl
 no-record StateRecord n = refl
 no-record TransitionRecord n = refl
 no-record (Unreached j) n = absurd (n .0 refl)
 no-record (ReachedTwice j) n = absurd (n .1 refl)
 no-record Repeated n = refl
 no-record TooLarge n = refl
+no-record TooManyLabels n = refl
 no-record Grid n = refl
 no-record NotReflexive n = refl
 no-record NotTransitive n = refl

@@ -10,3 +10,5 @@ pub mod Rule
 pub mod Demand
 pub mod Transitions
 pub mod Mapped
+pub mod Places
+pub mod Labels

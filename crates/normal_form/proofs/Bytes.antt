@@ -1,17 +1,17 @@
 -- Laws of the bytes of a normal form: their lengths.
-use Prim.Native.Nat.{ℕ, zero, suc, _*_, _<_}
+use Prim.Native.Nat.{ℕ, suc, _*_, _<_}
 use mathlib.Core.Path.{_≡_, refl}
 use mathlib.Core.Bool.{Bool, true, false, cond}
 use mathlib.Core.List.{List, [], _∷_}
 use native.Mathlib.Omega.{arith}
 use lib.ListN.{length, length-append}
-use Rattle.lts.specs.Bounded.{concatBelow}
+use Rattle.lts.proofs.Lists.{concat-each}
 use Rattle.lts.specs.System.{Lts}
 use Rattle.lts.specs.Transitions.{Transition, transitions}
 use Rattle.encoding.specs.declared.Header.{Header}
 use Rattle.encoding.specs.declared.TransitionRecord.{TransitionRecord}
-use Rattle.encoding.specs.Records.{two, headerBytes, stateBytes, transitionBytes, encodingLength}
-use Rattle.normal_form.specs.Normal.{normalHeader, statesBytes, transitionsBytes, normal}
+use Rattle.encoding.specs.Records.{two, headerBytes, stateBytes, transitionBytes, labelsLength, encodingLength}
+use Rattle.normal_form.specs.Normal.{normalHeader, normalState, statesBytes, transitionsBytes, sheetBytes}
 
 -- ## Lengths
 pub record-length : (r : TransitionRecord) → length (transitionBytes r) ≡ 6
@@ -24,20 +24,25 @@ transitions-length i [] = refl
 transitions-length i (x ∷ l) = rw (length-append, record-length, transitions-length (suc i) l) (omega arith)
 
 pub states-length : (L : Lts) (n : ℕ) → length (statesBytes L n) ≡ 4 * n
-unfolding statesBytes concatBelow stateBytes two
-states-length L zero = refl
-states-length L (suc n) = rw (length-append, states-length L n) (omega arith)
+unfolding statesBytes stateBytes two
+states-length L n = concat-each (λ p. stateBytes (normalState L p)) 4 n (λ p l. refl)
 
 pub header-length : (h : Header) → length (headerBytes h) ≡ 6
 unfolding headerBytes two
 header-length h = refl
 
-pub normal-length : (L : Lts) → length (normal L) ≡ encodingLength (normalHeader L)
-unfolding normal
-normal-length L =
+-- with the bytes of all label records
+pub sheet-long : (named : Bool) (labels : List ℕ) (L : Lts) → length labels ≡ labelsLength (normalHeader named L)
+    → length (sheetBytes named labels L) ≡ encodingLength (normalHeader named L)
+unfolding sheetBytes
+sheet-long named labels L e =
     let p = states-length L (L .states) in
     let q = transitions-length 1 (transitions L) in
-    rw (length-append, length-append, header-length) (omega (arith, p, q))
+    rw (length-append, length-append, length-append, header-length) (omega (arith, e, p, q))
+
+-- ## Bytes
+unfoldable pub Small : ℕ → Type 0
+Small x = x < 256
 
 -- an end mark is a byte
 pub mark-small : (b : Bool) → cond b 1 0 < 256

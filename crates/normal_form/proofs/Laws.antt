@@ -1,6 +1,6 @@
 -- What `normal` writes is the normal form, the only one; and the promise of normalise.
 use Prim.Native.Nat.{ℕ}
-use mathlib.Core.Path.{_≡_, refl, sym, ap, _∙_, subst}
+use mathlib.Core.Path.{_≡_, refl, sym, ap, ap₂, _∙_, subst}
 use mathlib.Core.Logic.{_↔_}
 use mathlib.Core.List.{List, []}
 use lib.ListN.{length}
@@ -12,43 +12,48 @@ use Rattle.encoding.specs.declared.Header.{Header}
 use Rattle.encoding.specs.declared.Reading.the-variants.{Readable}
 use Rattle.encoding.specs.Records.{headerOf}
 use Rattle.encoding.specs.Encoding.{sheetRules, readEncoding}
+use Rattle.encoding.specs.Labels.{Labelling, labellingOf}
 use Rattle.encoding.specs.Denotation.{ltsOf}
 use Rattle.normal_form.specs.Normal.{normalHeader, normal}
 use Rattle.encoding.specs.Checked.{ReadableAs}
 use Rattle.normal_form.specs.NormalForm.{IsNormal, IsBytes, Encodable, NormalForm}
 use Rattle.normal_form.specs.Normalise.{NormaliseOutcome, normaliseRules, normaliseCall, NormalisePromise}
 use Rattle.encoding.proofs.Reader.{sheet-passed, readable-of, reads}
-use Rattle.normal_form.proofs.Encodable.{sheet-header, sheet-length, sheet-encodable}
+use Rattle.normal_form.proofs.Encodable.{labelled-header, sheet-length, sheet-encodable}
 use Rattle.normal_form.proofs.NormalReads.{normal-header}
+use Rattle.normal_form.proofs.NormalLabels.{same-labelling}
 use Rattle.normal_form.proofs.NormalSame.{normal-readable, same}
 use Rattle.normal_form.proofs.NormalOrder.{normal-is, normal-bytes}
 use Rattle.normal_form.proofs.NormalOnly.{only-one}
 
 -- what is in normal form is what `normal` writes
-is-normal-of : (s : List ℕ) (h : Header) → IsBytes s → ReadableAs s h → IsNormal s h → s ≡ normal (ltsOf s)
+is-normal-of : (s : List ℕ) (h : Header) → IsBytes s → ReadableAs s h → IsNormal s h → s ≡ normal (labellingOf s) (ltsOf s)
 is-normal-of s h b g n =
+    let K = labellingOf s in
     let L = ltsOf s in
     let w = sheet-encodable g in
-    let to : normalHeader L ≡ h = sheet-header g in
-    only-one s (normal L) h g (subst (ReadableAs (normal L)) to (normal-readable L w)) (sym (same L w)) n
-    (subst (IsNormal (normal L)) to (normal-is L w)) b (normal-bytes L w)
+    let to : normalHeader (K .named) L ≡ h = labelled-header g in
+    only-one s (normal K L) h g (subst (ReadableAs (normal K L)) to (normal-readable K L w)) (sym (same K L w)) n
+    (subst (IsNormal (normal K L)) to (normal-is K L w)) b (normal-bytes K L w) (sym (same-labelling K L w))
 
 -- `normal` writes the normal form
-pub normal-form : (L : Lts) → Encodable L → NormalForm L (normal L)
-normal-form L w = record {
-  bytes = normal-bytes L w;
-  reads = reads (normal L) (normalHeader L) (normal-readable L w);
-  same = same L w;
-  normal = normal-is L w;
-  only = λ u k b r n q. is-normal-of u k b (readable-of r) n ∙ ap normal q;
+pub normal-form : (K : Labelling) (L : Lts) → Encodable K L → NormalForm K L (normal K L)
+normal-form K L w = record {
+  bytes = normal-bytes K L w;
+  reads = reads (normal K L) (normalHeader (K .named) L) (normal-readable K L w);
+  labelling = same-labelling K L w;
+  same = same K L w;
+  normal = normal-is K L w;
+  only = λ u h b r n k q. is-normal-of u h b (readable-of r) n ∙ ap₂ normal k q;
 }
 
--- a readable sequence of bytes is in normal form exactly if it is what `normal` writes of its Lts
-pub normal-iff : (s : List ℕ) (h : Header) → readEncoding s ≡ Readable h → IsBytes s → IsNormal s h ↔ (s ≡ normal (ltsOf s))
+-- a readable sequence of bytes is in normal form exactly if it is what `normal` writes of its labels and Lts
+pub normal-iff : (s : List ℕ) (h : Header) → readEncoding s ≡ Readable h → IsBytes s → IsNormal s h ↔ (s ≡ normal (labellingOf s) (ltsOf s))
 normal-iff s h e b =
-    let g = readable-of e in (
+    let g = readable-of e in
+    let is = normal-is (labellingOf s) (ltsOf s) (sheet-encodable g) in (
       is-normal-of s h b g,
-      λ q. rw (sym q) at (subst (IsNormal (normal (ltsOf s))) (sheet-header g) (normal-is (ltsOf s) (sheet-encodable g))),
+      λ q. subst (λ (x : List ℕ). IsNormal x h) (sym q) (subst (IsNormal (normal (labellingOf s) (ltsOf s))) (labelled-header g) is),
     )
 
 -- ## What is promised of normalise
@@ -59,7 +64,7 @@ module _ (s out₀ : List ℕ) (reply : Reply) (out : List ℕ) (is : normaliseC
   broken-is e = when-broken (normaliseRules s out₀) _ _ is e
 
   kept-is : broken (normaliseRules s out₀) ≡ Nothing
-      → _≡_ {A = NormaliseOutcome} (record { reply = reply; out = out }) (record { reply = given []; out = normal (ltsOf s) })
+      → _≡_ {A = NormaliseOutcome} (record { reply = reply; out = out }) (record { reply = given []; out = normal (labellingOf s) (ltsOf s) })
   unfolding normaliseCall
   kept-is e = when-kept (normaliseRules s out₀) _ _ is e
 
@@ -67,10 +72,10 @@ module _ (s out₀ : List ℕ) (reply : Reply) (out : List ℕ) (is : normaliseC
   unfolding normaliseRules
   read-kept e = sym (sheet-passed s refl (both-kept (sheetRules s) _ e .0))
 
-  out-is : broken (normaliseRules s out₀) ≡ Nothing → out ≡ normal (ltsOf s)
+  out-is : broken (normaliseRules s out₀) ≡ Nothing → out ≡ normal (labellingOf s) (ltsOf s)
   out-is e = ap (λ (o : NormaliseOutcome). o .out) (kept-is e)
 
-  encodable : broken (normaliseRules s out₀) ≡ Nothing → Encodable (ltsOf s)
+  encodable : broken (normaliseRules s out₀) ≡ Nothing → Encodable (labellingOf s) (ltsOf s)
   encodable e = sheet-encodable (readable-of (read-kept e))
 
   pub normalise-promised : NormalisePromise s out₀ reply out
@@ -79,7 +84,7 @@ module _ (s out₀ : List ℕ) (reply : Reply) (out : List ℕ) (is : normaliseC
     answers = λ e. (
       ap (λ (o : NormaliseOutcome). o .reply) (kept-is e),
       ap length (out-is e) ∙ sheet-length (readable-of (read-kept e)),
-      ap headerOf (out-is e) ∙ normal-header (ltsOf s) (encodable e) ∙ sheet-header (readable-of (read-kept e)),
-      rw (out-is e) (normal-form (ltsOf s) (encodable e)),
+      ap headerOf (out-is e) ∙ normal-header (labellingOf s) (ltsOf s) (encodable e) ∙ labelled-header (readable-of (read-kept e)),
+      rw (out-is e) (normal-form (labellingOf s) (ltsOf s) (encodable e)),
     );
   }

@@ -1,8 +1,10 @@
 pub mod Bytes
+pub mod Labelled
 pub mod Encodable
 pub mod Tables
 pub mod Written
 pub mod NormalReads
+pub mod NormalLabels
 pub mod NormalChains
 pub mod NormalSame
 pub mod Ordered

@@ -1,5 +1,5 @@
 -- The chains of a normal form are consecutive.
-use Prim.Native.Nat.{ℕ, zero, suc, _+_, _-_, _≤_, _<_}
+use Prim.Native.Nat.{ℕ, zero, suc, _+_, _≤_, _<_}
 use mathlib.Core.Path.{_≡_, refl, sym, ap, _∙_}
 use mathlib.Core.Bool.{Bool, true, false, cond, _||_, _&&_}
 use mathlib.Core.List.{List, [], _∷_, _++_, map}
@@ -14,6 +14,7 @@ use Rattle.encoding.specs.declared.Header.{Header}
 use Rattle.encoding.specs.Records.{stateRecord, transitionRecord}
 use Rattle.encoding.specs.Encoding.{walk, chain, reached, member, distinct, statesFit, stateFits, transitionsFit, transitionFits, allReached, onSomeChain, successor}
 use Rattle.encoding.specs.Checked.{Recorded, chainsFit}
+use Rattle.encoding.specs.Labels.{Labelling}
 use Rattle.lts.specs.System.{Lts}
 use Rattle.lts.specs.Transitions.{Transition, transitionsOf, transitionsBelow, transitions}
 use Rattle.normal_form.specs.Normal.{firstIndex, nextIndex, normalHeader, normal, normalState, normalTransition}
@@ -23,7 +24,7 @@ use Rattle.lts.proofs.Below.{all-of}
 use Rattle.encoding.proofs.Chains.{walk-end}
 use Rattle.lts.proofs.Transitions.{nth, every-nth, up-none, up-length, up-grows, Valid, of-keeps, Sourced, all-keep, state-nth, later}
 use Rattle.transitions.proofs.Codes.{code}
-use Rattle.normal_form.proofs.Bytes.{normal-length}
+use Rattle.normal_form.proofs.Labelled.{normal-length}
 use Rattle.normal_form.proofs.NormalReads.{next-small, normal-state, normal-transition}
 
 pub drop-nth : (l : List Transition) (i : ℕ) → i < length l → drop i l ≡ nth l i ∷ drop (suc i) l
@@ -92,9 +93,9 @@ unfolding upto distinct
 upto-distinct j zero = refl
 upto-distinct j (suc c) = rw (upto-out j (suc j) c (le-refl _), upto-distinct (suc j) c)
 
-module _ (L : Lts) (w : Encodable L) where
+module _ (K : Labelling) (L : Lts) (w : Encodable K L) where
   abbrev h : Header
-  h = normalHeader L
+  h = normalHeader (K .named) L
 
   abbrev all : List Transition
   all = transitions L
@@ -106,10 +107,10 @@ module _ (L : Lts) (w : Encodable L) where
   unfolding at
   at-none = rw up-none
 
-  normal-at : (i : ℕ) → i < length all → transitionRecord (normal L) h (suc i)
+  normal-at : (i : ℕ) → i < length all → transitionRecord (normal K L) h (suc i)
       ≡ record { action = nth all i .action; spare = 0; target = nth all i .target; next = nextIndex (suc i) (nth all i) (drop (suc i) all) }
   unfolding normalTransition
-  normal-at i l = normal-transition L w i l
+  normal-at i l = normal-transition K L w i l
 
   -- ## The next index
   -- state p's transitions end where the next state's begin, and lie among all
@@ -155,52 +156,52 @@ module _ (L : Lts) (w : Encodable L) where
 
   -- ## The chain of a state
   next-of : (p i : ℕ) → p < L .states → i < length (transitionsOf L p)
-      → transitionRecord (normal L) h (suc (at p + i)) .next ≡ nextIndex (suc (at p + i)) (nth all (at p + i)) (drop (suc (at p + i)) all)
+      → transitionRecord (normal K L) h (suc (at p + i)) .next ≡ nextIndex (suc (at p + i)) (nth all (at p + i)) (drop (suc (at p + i)) all)
   next-of p i l u =
       let n = ends p in
       let k = inside p l in
       ap (λ r. r .next) (normal-at (at p + i) (omega arith))
 
   walk-on : (p : ℕ) → p < L .states → (c fuel i : ℕ) → suc c ≤ fuel → i + suc c ≡ length (transitionsOf L p)
-      → walk (normal L) h fuel (suc (at p + i)) ≡ upto (suc (at p + i)) (suc c)
+      → walk (normal K L) h fuel (suc (at p + i)) ≡ upto (suc (at p + i)) (suc c)
   unfolding walk upto
   walk-on p l c zero i u e = absurd (not-suc-le-zero u)
   walk-on p l zero (suc fuel) i u e =
-      ap (λ r. suc (at p + i) ∷ r) (rw (next-of p i l (omega arith), next-off p i l (omega arith)) (walk-end (normal L) h fuel))
+      ap (λ r. suc (at p + i) ∷ r) (rw (next-of p i l (omega arith), next-off p i l (omega arith)) (walk-end (normal K L) h fuel))
   walk-on p l (suc c) (suc fuel) i u e =
       let to : suc (at p + i) + 1 ≡ suc (at p + suc i) = omega arith in
       let from : suc (suc (at p + i)) ≡ suc (at p + suc i) = omega arith in
       ap (λ r. suc (at p + i) ∷ r)
       (rw (next-of p i l (omega arith), next-on p i l (omega arith), to, from) (walk-on p l c fuel (suc i) (omega arith) (omega arith)))
 
-  first-is : (p : ℕ) → p < L .states → stateRecord (normal L) h p .first ≡ firstIndex (at p) (at (suc p))
+  first-is : (p : ℕ) → p < L .states → stateRecord (normal K L) h p .first ≡ firstIndex (at p) (at (suc p))
   unfolding at normalState
-  first-is p l = ap (λ r. r .first) (normal-state L w p l)
+  first-is p l = ap (λ r. r .first) (normal-state K L w p l)
 
-  pub chain-on : (p : ℕ) → p < L .states → chain (normal L) h p ≡ upto (suc (at p)) (length (transitionsOf L p))
+  pub chain-on : (p : ℕ) → p < L .states → chain (normal K L) h p ≡ upto (suc (at p)) (length (transitionsOf L p))
   unfolding chain
   chain-on p l = rw (first-is p l) (go (length (transitionsOf L p)) refl)
     where
       go : (c : ℕ) → length (transitionsOf L p) ≡ c
-          → walk (normal L) h (suc (length all)) (firstIndex (at p) (at (suc p))) ≡ upto (suc (at p)) (length (transitionsOf L p))
-      go zero e = let n = ends p in rw (first-none (at p) (at (suc p)) (omega arith), e) (walk-end (normal L) h _ ∙ sym (upto-none _))
+          → walk (normal K L) h (suc (length all)) (firstIndex (at p) (at (suc p))) ≡ upto (suc (at p)) (length (transitionsOf L p))
+      go zero e = let n = ends p in rw (first-none (at p) (at (suc p)) (omega arith), e) (walk-end (normal K L) h _ ∙ sym (upto-none _))
       go (suc c) e =
           let n = ends p in
           let k = inside p l in
           rw (first-some (at p) (at (suc p)) (omega arith), e) (rw add-zero at (walk-on p l c (suc (length all)) 0 (omega arith) (omega arith)))
 
-  pub reached-on : (p : ℕ) → p ≤ L .states → reached (normal L) h p ≡ upto 1 (at p)
+  pub reached-on : (p : ℕ) → p ≤ L .states → reached (normal K L) h p ≡ upto 1 (at p)
   unfolding reached concatBelow
   reached-on zero l = sym (rw at-none (upto-none 1))
   reached-on (suc p) l = rw (reached-on p (omega arith), chain-on p l, ends p, upto-add, one-add)
 
   -- ## Rules 1 to 5, and 16
   pub state-is : (p : ℕ) → p < L .states
-      → stateRecord (normal L) h p ≡ record { mark = cond (L .terminating p) 1 0; spare = 0; first = firstIndex (at p) (at (suc p)) }
+      → stateRecord (normal K L) h p ≡ record { mark = cond (L .terminating p) 1 0; spare = 0; first = firstIndex (at p) (at (suc p)) }
   unfolding at normalState
-  state-is p l = normal-state L w p l
+  state-is p l = normal-state K L w p l
 
-  states-ok : statesFit (normal L) h ≡ true
+  states-ok : statesFit (normal K L) h ≡ true
   unfolding statesFit stateFits
   states-ok = all-of (L .states) _ (λ p l. rw (state-is p l) (fits p l))
     where
@@ -211,7 +212,7 @@ module _ (L : Lts) (w : Encodable L) where
           let q = first-le (at p) (at (suc p)) (omega arith) in
           rw (le-leb (cond (L .terminating p) 1 0) 1 (mark-le (L .terminating p)), le-leb (firstIndex (at p) (at (suc p))) (length all) (omega arith))
 
-  transitions-ok : transitionsFit (normal L) h ≡ true
+  transitions-ok : transitionsFit (normal K L) h ≡ true
   unfolding transitionsFit transitionFits transitions
   transitions-ok = all-of (length all) _ (λ i l. rw (add-one, normal-at i l) (fits i l))
     where
@@ -228,10 +229,10 @@ module _ (L : Lts) (w : Encodable L) where
             le-leb (nextIndex (suc i) (nth all i) (drop (suc i) all)) (length all) (omega arith),
           )
 
-  pub recorded : Recorded (normal L) h
+  pub recorded : Recorded (normal K L) h
   recorded =
       record {
-        sized = record { bounds = w .bounds; long = normal-length L };
+        sized = record { bounds = w .bounds; long = normal-length K L (w .labelled) };
         states = states-ok;
         transitions = transitions-ok;
       }
@@ -240,14 +241,14 @@ module _ (L : Lts) (w : Encodable L) where
   unfolding at transitions
   at-end = refl
 
-  pub chains-ok : chainsFit (normal L) h ≡ true
+  pub chains-ok : chainsFit (normal K L) h ≡ true
   unfolding chainsFit allReached onSomeChain
   chains-ok =
       rw (reached-on (L .states) (le-refl _), at-end, upto-distinct 1 (length all))
       (all-of (length all) _ (λ i l. upto-in (i + 1) 1 (length all) (omega arith) (omega arith)))
 
   -- ## Rule 6
-  pub successor-on : (p i : ℕ) → p < L .states → i < length (transitionsOf L p) → successor (normal L) h (suc (at p + i)) ≡ code (nth (transitionsOf L p) i)
+  pub successor-on : (p i : ℕ) → p < L .states → i < length (transitionsOf L p) → successor (normal K L) h (suc (at p + i)) ≡ code (nth (transitionsOf L p) i)
   unfolding successor code at transitions
   successor-on p i l u =
       let n = ends p in
@@ -256,7 +257,7 @@ module _ (L : Lts) (w : Encodable L) where
       rw (m, state-nth L (L .states) p i l u)
 
   pub successors-on : (p : ℕ) → p < L .states → (c i : ℕ) → i + c ≡ length (transitionsOf L p)
-      → map (successor (normal L) h) (upto (suc (at p + i)) c) ≡ map code (drop i (transitionsOf L p))
+      → map (successor (normal K L) h) (upto (suc (at p + i)) c) ≡ map code (drop i (transitionsOf L p))
   unfolding upto
   successors-on p l zero i e = rw (drop-of-length-le (transitionsOf L p) {i = i} (omega arith))
   successors-on p l (suc c) i e =

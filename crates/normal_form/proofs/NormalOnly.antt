@@ -1,4 +1,4 @@
--- Two readable sequences of bytes in normal form that denote the same Lts are equal.
+-- Two readable sequences of bytes in normal form that have the same kind and labels and denote the same Lts are equal.
 use Prim.Native.Nat.{ℕ, zero, suc, _+_, _*_, _-_, _≤_, _<_, _/_, _%_}
 use mathlib.Core.Path.{_≡_, refl, sym, ap, _∙_}
 use mathlib.Core.Bool.{cond, false≢true, and-eq-true-iff}
@@ -7,17 +7,20 @@ use native.Mathlib.Omega.{arith}
 use native.Mathlib.Nat.{not-suc-le-zero, le-refl, add-zero}
 use native.Mathlib.Numerals.{add-one}
 use native.Mathlib.Decide.{decLt, ℕ-discrete}
-use borrow.Author.Tests.{eq-eqb, ne-eqb, eqb-true}
+use borrow.Author.Tests.{eq-eqb, ne-eqb, eqb-true, le-leb, lt-leb}
+use lib.Dec.{leb}
 use lib.ListN.{length, getD, length-append, length-map}
 use lib.Seq.{ext-getD}
 use Rattle.lts.specs.Bounded.{concatBelow}
 use Rattle.encoding.specs.declared.Header.{Header}
 use Rattle.encoding.specs.declared.StateRecord.{StateRecord}
 use Rattle.encoding.specs.declared.TransitionRecord.{TransitionRecord}
-use Rattle.encoding.specs.Records.{numberAt, headerOf, stateRecordAt, transitionRecordAt, stateRecord, transitionRecord}
+use Rattle.encoding.specs.Records.{numberAt, headerOf, stateRecordAt, transitionRecordAt, labelsLength, encodingLength, stateRecord, transitionRecord}
+use Rattle.encoding.specs.Labels.{labellingOf}
 use Rattle.encoding.specs.Encoding.{walk, chain, reached, member, successor, stateFits, statesFit, transitionFits, transitionsFit}
 use Rattle.encoding.specs.Checked.{ReadableAs}
 use Rattle.encoding.specs.Denotation.{ltsOf}
+use Rattle.normal_form.specs.Normal.{recordsOf}
 use Rattle.normal_form.specs.NormalForm.{IsNormal, IsBytes}
 use Rattle.lts.proofs.Below.{all-at}
 use Rattle.lts.proofs.Lists.{Every}
@@ -26,6 +29,7 @@ use Rattle.encoding.proofs.Denotation.{transition-member, mark-byte}
 use Rattle.transitions.proofs.Codes.{Rising, rising-out}
 use Rattle.encoding.proofs.Counting.{Good, good-successors}
 use Rattle.encoding.proofs.Members.{member-keeps}
+use Rattle.normal_form.proofs.Labelled.{labels-from, sheet-records}
 use Rattle.normal_form.proofs.Ordered.{chain-ends, chain-rising, each-record}
 
 -- ## Rising lists with the same members are equal
@@ -105,6 +109,16 @@ walk-next u v h (suc (suc fuel)) (suc j) e l =
     (n, walk-next u v h (suc fuel) a (t ∙ ap (walk v h (suc fuel)) (sym n)) (omega arith))
 
 -- ## Equal records have equal bytes
+-- the first number, by the count of states and the kind
+same-first : (x y : ℕ) → x < 65536 → y < 65536 → x % 32768 ≡ y % 32768 → leb 32768 x ≡ leb 32768 y → x ≡ y
+same-first x y a b e k = go (decLt x 32768) (decLt y 32768)
+  where
+    go : Dec (x < 32768) → Dec (y < 32768) → x ≡ y
+    go (yes p) (yes q) = omega (arith, e)
+    go (yes p) (no q) = absurd (false≢true (sym (lt-leb 32768 x (omega arith)) ∙ k ∙ le-leb 32768 y (omega (arith, q))))
+    go (no p) (yes q) = absurd (false≢true (sym (lt-leb 32768 y (omega arith)) ∙ sym k ∙ le-leb 32768 x (omega (arith, p))))
+    go (no p) (no q) = omega (arith, e, p, q)
+
 module _ (u v : List ℕ) (bu : (i : ℕ) → getD u i 0 < 256) (bv : (i : ℕ) → getD v i 0 < 256) where
   two-bytes : (i : ℕ) → numberAt u i ≡ numberAt v i → (getD u i 0 ≡ getD v i 0) × (getD u (i + 1) 0 ≡ getD v (i + 1) 0)
   unfolding numberAt
@@ -113,10 +127,16 @@ module _ (u v : List ℕ) (bu : (i : ℕ) → getD u i 0 < 256) (bv : (i : ℕ) 
       let b = bv i in
       (omega (arith, a, b, e), omega (arith, a, b, e))
 
+  first-number : headerOf u ≡ headerOf v → numberAt u 0 ≡ numberAt v 0
+  unfolding headerOf numberAt
+  first-number e =
+      same-first (numberAt u 0) (numberAt v 0) (omega (arith, bu 0, bu 1)) (omega (arith, bv 0, bv 1))
+      (ap (λ (r : Header). r .states) e) (ap (λ (r : Header). r .named) e)
+
   header-bytes : headerOf u ≡ headerOf v → (i : ℕ) → i < 6 → getD u i 0 ≡ getD v i 0
   unfolding headerOf
-  header-bytes e zero l = two-bytes 0 (ap (λ (r : Header). r .states) e) .0
-  header-bytes e (suc zero) l = two-bytes 0 (ap (λ (r : Header). r .states) e) .1
+  header-bytes e zero l = two-bytes 0 (first-number e) .0
+  header-bytes e (suc zero) l = two-bytes 0 (first-number e) .1
   header-bytes e (suc (suc zero)) l = two-bytes 2 (ap (λ (r : Header). r .actions) e) .0
   header-bytes e (suc (suc (suc zero))) l = two-bytes 2 (ap (λ (r : Header). r .actions) e) .1
   header-bytes e (suc (suc (suc (suc zero)))) l = two-bytes 4 (ap (λ (r : Header). r .transitions) e) .0
@@ -145,26 +165,31 @@ module _ (u v : List ℕ) (bu : (i : ℕ) → getD u i 0 < 256) (bv : (i : ℕ) 
   transition-bytes k e (suc (suc (suc (suc (suc (suc i)))))) l = absurd (omega arith)
 
   -- encodings with the same header and the same records are equal
-  records-ext : (h : Header) → headerOf u ≡ headerOf v → length u ≡ 6 + 4 * h .states + 6 * h .transitions → length v ≡ length u
+  records-ext : (h : Header) → headerOf u ≡ headerOf v → length u ≡ encodingLength h → length v ≡ length u
+      → ((i : ℕ) → i < labelsLength h → getD u (6 + i) 0 ≡ getD v (6 + i) 0)
       → ((p : ℕ) → p < h .states → stateRecord u h p ≡ stateRecord v h p)
       → ((i : ℕ) → i < h .transitions → transitionRecord u h (suc i) ≡ transitionRecord v h (suc i))
       → u ≡ v
   unfolding stateRecord transitionRecord
-  records-ext h e lu lv a b = ext-getD 0 u v (sym lv) (λ i l. go i l (decLt i 6) (decLt i (6 + 4 * h .states)))
+  records-ext h e lu lv n a b =
+      ext-getD 0 u v (sym lv) (λ i l. go i l (decLt i 6) (decLt i (6 + labelsLength h)) (decLt i (6 + labelsLength h + 4 * h .states)))
     where
-      go : (i : ℕ) → i < length u → Dec (i < 6) → Dec (i < 6 + 4 * h .states) → getD u i 0 ≡ getD v i 0
-      go i l (yes k) d = header-bytes e i k
-      go i l (no k) (yes d) =
-          let p = (i - 6) / 4 in
-          let j = (i - 6) % 4 in
-          let at : 6 + 4 * p + j ≡ i = omega (arith, k) in
-          rw at at (state-bytes (6 + 4 * p) (a p (omega (arith, k, d))) j (omega arith))
-      go i l (no k) (no d) =
-          let q = (i - 6 - 4 * h .states) / 6 in
-          let j = (i - 6 - 4 * h .states) % 6 in
+      go : (i : ℕ) → i < length u → Dec (i < 6) → Dec (i < 6 + labelsLength h) → Dec (i < 6 + labelsLength h + 4 * h .states) → getD u i 0 ≡ getD v i 0
+      go i l (yes k) c d = header-bytes e i k
+      go i l (no k) (yes c) d =
+          let at : 6 + (i - 6) ≡ i = omega (arith, k) in
+          rw at at (n (i - 6) (omega (arith, k, c)))
+      go i l (no k) (no c) (yes d) =
+          let p = (i - 6 - labelsLength h) / 4 in
+          let j = (i - 6 - labelsLength h) % 4 in
+          let at : 6 + labelsLength h + 4 * p + j ≡ i = omega (arith, c) in
+          rw at at (state-bytes (6 + labelsLength h + 4 * p) (a p (omega (arith, c, d))) j (omega arith))
+      go i l (no k) (no c) (no d) =
+          let q = (i - 6 - labelsLength h - 4 * h .states) / 6 in
+          let j = (i - 6 - labelsLength h - 4 * h .states) % 6 in
           let to : suc q - 1 ≡ q = omega arith in
-          let at : 6 + 4 * h .states + 6 * q + j ≡ i = omega (arith, k, d) in
-          rw at at (transition-bytes (6 + 4 * h .states + 6 * q) (rw to at (b q (omega (arith, k, d, l, lu)))) j (omega arith))
+          let at : 6 + labelsLength h + 4 * h .states + 6 * q + j ≡ i = omega (arith, d) in
+          rw at at (transition-bytes (6 + labelsLength h + 4 * h .states + 6 * q) (rw to at (b q (omega (arith, d, l, lu)))) j (omega arith))
 
 -- ## The records of two encodings in normal form
 module _ (u v : List ℕ) (h : Header) (gu : ReadableAs u h) (gv : ReadableAs v h) (e : ltsOf u ≡ ltsOf v) where
@@ -246,11 +271,16 @@ module _ (u v : List ℕ) (h : Header) (gu : ReadableAs u h) (gv : ReadableAs v 
         let n = nexts i l in
         λ j. record { action = a j; spare = s j; target = t j; next = n j }
 
-    pub only-one : IsBytes u → IsBytes v → u ≡ v
-    only-one bu bv =
+    labels : labellingOf u ≡ labellingOf v → (i : ℕ) → i < labelsLength h → getD u (6 + i) 0 ≡ getD v (6 + i) 0
+    labels k i l =
+        let same = sym (sheet-records u h gu) ∙ ap recordsOf k ∙ sheet-records v h gv in
+        sym (labels-from u h gu i l) ∙ ap (λ (x : List ℕ). getD x i 0) same ∙ labels-from v h gv i l
+
+    pub only-one : IsBytes u → IsBytes v → labellingOf u ≡ labellingOf v → u ≡ v
+    only-one bu bv k =
         let lu = gu .recorded .sized .long in
         let lv = gv .recorded .sized .long in
-        records-ext u v (small u bu) (small v bv) h (sym (gu .header) ∙ gv .header) lu (lv ∙ sym lu) states transitions
+        records-ext u v (small u bu) (small v bv) h (sym (gu .header) ∙ gv .header) lu (lv ∙ sym lu) (labels k) states transitions
       where
         past : (s : List ℕ) (i : ℕ) → length s ≤ i → getD s i 0 ≡ 0
         past [] i l = refl

@@ -1,6 +1,7 @@
--- What `normal` writes of a system that a sheet can hold is in normal form, and a sequence of bytes.
+-- What `normal` writes of labels and a system that a sheet can hold is in normal form, and a sequence of bytes.
 use Prim.Native.Nat.{ℕ, zero, suc, _+_, _<_}
 use mathlib.Core.Path.{_≡_, refl, sym, _∙_}
+use mathlib.Core.Bool.{cond}
 use mathlib.Core.List.{List, [], _∷_, _++_}
 use native.Mathlib.Omega.{arith}
 use native.Mathlib.Nat.{le-refl, add-zero, add-suc, suc-add}
@@ -11,14 +12,16 @@ use Rattle.encoding.specs.declared.Header.{Header}
 use Rattle.encoding.specs.declared.StateRecord.{StateRecord}
 use Rattle.encoding.specs.declared.TransitionRecord.{TransitionRecord}
 use Rattle.encoding.specs.Records.{two, headerBytes, stateBytes, transitionBytes}
+use Rattle.encoding.specs.Labels.{Labelling}
 use Rattle.lts.specs.System.{Lts}
 use Rattle.lts.specs.Transitions.{Transition, transitions}
-use Rattle.normal_form.specs.Normal.{normalHeader, normalState, normalTransition, statesBytes, transitionsBytes, normal}
+use Rattle.normal_form.specs.Normal.{normalHeader, normalState, normalTransition, statesBytes, transitionsBytes, sheetBytes, recordsOf, normal}
 use Rattle.normal_form.specs.NormalForm.{IsNormal, IsBytes, Encodable}
 use Rattle.lts.proofs.Lists.{Every, every-append, every-at, every-more, concat-keeps}
 use Rattle.lts.proofs.Transitions.{Sourced, all-keep}
 use Rattle.transitions.proofs.Codes.{codes-up}
-use Rattle.normal_form.proofs.Bytes.{mark-small}
+use Rattle.normal_form.proofs.Bytes.{Small, mark-small}
+use Rattle.normal_form.proofs.Labelled.{records-small}
 use Rattle.normal_form.proofs.NormalChains.{upto, reached-on, at-end}
 use Rattle.normal_form.proofs.NormalSame.{chain-codes, normal-readable}
 use Rattle.normal_form.proofs.Ordered.{is-normal}
@@ -33,9 +36,6 @@ upto-list (suc c) j f e =
     λ i. sym a i ∷ r i
 
 -- ## Bytes
-Small : ℕ → Type 0
-Small x = x < 256
-
 two-small : (x : ℕ) → Every Small (two x)
 unfolding two Small
 two-small x = (omega arith, (omega arith, tt))
@@ -43,8 +43,9 @@ two-small x = (omega arith, (omega arith, tt))
 header-small : (h : Header) → Every Small (headerBytes h)
 unfolding headerBytes
 header-small h =
-    every-append Small (two (h .states) ++ two (h .actions)) (two (h .transitions))
-    (every-append Small (two (h .states)) (two (h .actions)) (two-small (h .states)) (two-small (h .actions))) (two-small (h .transitions))
+    let first : ℕ = h .states + cond (h .named) 32768 0 in
+    every-append Small (two first ++ two (h .actions)) (two (h .transitions))
+    (every-append Small (two first) (two (h .actions)) (two-small first) (two-small (h .actions))) (two-small (h .transitions))
 
 state-small : (r : StateRecord) → r .mark < 256 → r .spare < 256 → Every Small (stateBytes r)
 unfolding stateBytes Small
@@ -62,16 +63,16 @@ transitions-small i (x ∷ l) e =
     every-append Small (transitionBytes (normalTransition i x l)) (transitionsBytes (suc i) l)
     (transition-small (normalTransition i x l) (e .0) (omega arith)) (transitions-small (suc i) l (e .1))
 
-module _ (L : Lts) (w : Encodable L) where
-  pub normal-is : IsNormal (normal L) (normalHeader L)
+module _ (K : Labelling) (L : Lts) (w : Encodable K L) where
+  pub normal-is : IsNormal (normal K L) (normalHeader (K .named) L)
   normal-is =
-      is-normal (normal L) (normalHeader L) (normal-readable L w)
-      (reached-on L w (L .states) (le-refl _) ∙ rw (at-end L w) (upto-list (length (transitions L)) 1 suc (λ i. sym (one-add i))))
-      (λ p l. rw (chain-codes L w p l) (codes-up L (w .bounds .states) p))
+      is-normal (normal K L) (normalHeader (K .named) L) (normal-readable K L w)
+      (reached-on K L w (L .states) (le-refl _) ∙ rw (at-end K L w) (upto-list (length (transitions L)) 1 suc (λ i. sym (one-add i))))
+      (λ p l. rw (chain-codes K L w p l) (codes-up L (w .bounds .states) p))
 
-  pub normal-bytes : IsBytes (normal L)
-  unfolding normal transitions statesBytes normalState Small
-  normal-bytes i l = every-at Small 0 (normal L) i all l
+  pub normal-bytes : IsBytes (normal K L)
+  unfolding normal sheetBytes transitions statesBytes normalState Small
+  normal-bytes i l = every-at Small 0 (normal K L) i all l
     where
       actions : Every (λ x. x .action < 256) (transitions L)
       actions =
@@ -81,9 +82,13 @@ module _ (L : Lts) (w : Encodable L) where
           let b = w .bounds in
           omega (arith, a, b)) (all-keep L (L .states))
 
-      all : Every Small (normal L)
+      front : Every Small (headerBytes (normalHeader (K .named) L) ++ recordsOf K)
+      front = every-append Small (headerBytes (normalHeader (K .named) L)) (recordsOf K) (header-small (normalHeader (K .named) L))
+          (records-small K (L .actions) (w .labelled))
+
+      all : Every Small (normal K L)
       all =
-          every-append Small (headerBytes (normalHeader L) ++ statesBytes L (L .states)) (transitionsBytes 1 (transitions L))
-          (every-append Small (headerBytes (normalHeader L)) (statesBytes L (L .states)) (header-small (normalHeader L))
+          every-append Small (headerBytes (normalHeader (K .named) L) ++ recordsOf K ++ statesBytes L (L .states)) (transitionsBytes 1 (transitions L))
+          (every-append Small (headerBytes (normalHeader (K .named) L) ++ recordsOf K) (statesBytes L (L .states)) front
           (concat-keeps _ Small (L .states) (λ p u. state-small (normalState L p) (mark-small (L .terminating p)) (omega arith))))
           (transitions-small 1 (transitions L) actions)

@@ -1,34 +1,57 @@
 -- The header and the records of a normal form are read back as they were written.
 use Prim.Native.Nat.{ℕ, zero, suc, _+_, _*_, _-_, _≤_, _<_, _/_, _%_}
-use mathlib.Core.Path.{_≡_, _∙_}
+use mathlib.Core.Path.{_≡_, refl, _∙_}
 use mathlib.Core.Bool.{Bool, true, false, cond}
 use mathlib.Core.List.{List, [], _∷_, _++_, append-assoc}
 use native.Mathlib.Omega.{arith}
+use borrow.Author.Tests.{le-leb, lt-leb}
 use native.Mathlib.Nat.{not-suc-le-zero, zero-add, add-zero}
 use native.Mathlib.Numerals.{one-add}
 use lib.ListN.{length, getD, drop, length-append, List·getD-append}
 use lib.Seq.{getD-append-add}
-use lib.Dec.{eqb}
+use lib.Dec.{eqb, leb}
 use Rattle.lts.specs.Bounded.{concatBelow}
 use Rattle.encoding.specs.declared.Header.{Header}
 use Rattle.encoding.specs.declared.StateRecord.{StateRecord}
 use Rattle.encoding.specs.declared.TransitionRecord.{TransitionRecord}
-use Rattle.encoding.specs.Records.{numberAt, two, headerOf, headerBytes, stateRecordAt, stateBytes, transitionRecordAt, transitionBytes, stateRecord, transitionRecord}
+use Rattle.encoding.specs.Records.{numberAt, two, headerOf, headerBytes, stateRecordAt, stateBytes, transitionRecordAt, transitionBytes, labelsLength, stateRecord, transitionRecord}
+use Rattle.encoding.specs.Labels.{Labelling}
 use Rattle.lts.specs.System.{Lts}
 use Rattle.lts.specs.Transitions.{Transition, transitionsBelow, transitions}
-use Rattle.normal_form.specs.Normal.{firstIndex, nextIndex, normalHeader, normalState, normalTransition, statesBytes, transitionsBytes, normal}
+use Rattle.normal_form.specs.Normal.{firstIndex, nextIndex, normalHeader, normalState, normalTransition, statesBytes, transitionsBytes, sheetBytes, recordsOf, normal}
 use Rattle.normal_form.specs.NormalForm.{Encodable}
 use Rattle.lts.proofs.Lists.{concat-at}
 use Rattle.lts.proofs.Transitions.{nth, every-nth, Sourced, all-keep, up-grows}
 use Rattle.normal_form.proofs.Bytes.{record-length, states-length, header-length}
+use Rattle.normal_form.proofs.Labelled.{records-length}
 
 -- ## What is written is read back
 back : (x : ℕ) → x < 65536 → x % 256 + 256 * (x / 256 % 256) ≡ x
 back x l = omega arith
 
-header-back : (h : Header) (l : List ℕ) → h .states < 65536 → h .actions < 65536 → h .transitions < 65536 → headerOf (headerBytes h ++ l) ≡ h
+-- the first number: the count of states and the kind
+count-back : (n : ℕ) (b : Bool) → n < 32768 → (n + cond b 32768 0) % 32768 ≡ n
+count-back n true l = omega arith
+count-back n false l = omega arith
+
+kind-back : (n : ℕ) (b : Bool) → n < 32768 → leb 32768 (n + cond b 32768 0) ≡ b
+kind-back n true l = le-leb 32768 (n + 32768) (omega arith)
+kind-back n false l = lt-leb 32768 (n + 0) (omega arith)
+
+first-small : (n : ℕ) (b : Bool) → n < 32768 → n + cond b 32768 0 < 65536
+first-small n true l = omega arith
+first-small n false l = omega arith
+
+header-back : (h : Header) (l : List ℕ) → h .states < 32768 → h .actions < 65536 → h .transitions < 65536 → headerOf (headerBytes h ++ l) ≡ h
 unfolding headerOf headerBytes numberAt two
-header-back h l a b c = rw (back (h .states) a, back (h .actions) b, back (h .transitions) c)
+header-back h l a b c =
+    rw (back (h .states + cond (h .named) 32768 0) (first-small (h .states) (h .named) a), back (h .actions) b, back (h .transitions) c)
+    (λ i. record {
+      states = count-back (h .states) (h .named) a i;
+      actions = h .actions;
+      transitions = h .transitions;
+      named = kind-back (h .states) (h .named) a i;
+    })
 
 state-back : (s : List ℕ) (i : ℕ) (r : StateRecord) → r .first < 65536 → ((j : ℕ) → j < 4 → getD s (i + j) 0 ≡ getD (stateBytes r) j 0) → stateRecordAt s i ≡ r
 unfolding stateRecordAt numberAt stateBytes two
@@ -47,9 +70,9 @@ transition-back s i r l k e =
     rw (a₃, a₅, e₀, e 1 (omega arith), e 2 (omega arith), e 3 (omega arith), e 4 (omega arith), e 5 (omega arith), back (r .target) l, back (r .next) k)
 
 -- ## Bounds of the indices
-pub first-small : (i j : ℕ) → firstIndex i j ≤ i + 1
+pub index-small : (i j : ℕ) → firstIndex i j ≤ i + 1
 unfolding firstIndex
-first-small i j = go (eqb i j)
+index-small i j = go (eqb i j)
   where
     go : (b : Bool) → cond b 0 (i + 1) ≤ i + 1
     go true = omega arith
@@ -78,53 +101,66 @@ transition-byte (x ∷ l) k (suc j) i m u =
     let c : k + suc j ≡ suc k + j = omega arith in
     rw (e, c) (getD-append-add r (transitionsBytes (suc k) l) (6 * j + i) 0 ∙ transition-byte l (suc k) j i (omega arith) u)
 
-module _ (L : Lts) (w : Encodable L) where
+module _ (K : Labelling) (L : Lts) (w : Encodable K L) where
   abbrev h : Header
-  h = normalHeader L
+  h = normalHeader (K .named) L
 
   abbrev all : List Transition
   all = transitions L
 
-  pub normal-header : headerOf (normal L) ≡ normalHeader L
-  unfolding normal
-  normal-header = let b = w .bounds in rw append-assoc (header-back h _ (omega arith) (omega arith) (omega arith))
+  -- header and label records
+  abbrev front : List ℕ
+  front = headerBytes h ++ recordsOf K
+
+  pub front-length : length (headerBytes (normalHeader (K .named) L) ++ recordsOf K) ≡ 6 + labelsLength (normalHeader (K .named) L)
+  front-length = rw (length-append, header-length, records-length K (L .actions) (w .labelled) h refl refl)
+
+  pub normal-header : headerOf (normal K L) ≡ normalHeader (K .named) L
+  unfolding normal sheetBytes
+  normal-header =
+      let b = w .bounds in
+      let states = statesBytes L (L .states) in
+      let records = transitionsBytes 1 all in
+      rw (append-assoc front states records, append-assoc (headerBytes h) (recordsOf K) (states ++ records))
+      (header-back h _ (omega arith) (omega arith) (omega arith))
 
   -- ## The records of the normal form
-  state-byte : (p i : ℕ) → p < L .states → i < 4 → getD (normal L) (6 + 4 * p + i) 0 ≡ getD (stateBytes (normalState L p)) i 0
-  unfolding normal statesBytes stateBytes two
+  state-byte : (p i : ℕ) → p < L .states → i < 4 → getD (normal K L) (6 + labelsLength h + 4 * p + i) 0 ≡ getD (stateBytes (normalState L p)) i 0
+  unfolding normal sheetBytes statesBytes stateBytes two
   state-byte p i l k =
       let f : ℕ → List ℕ = λ q. stateBytes (normalState L q) in
       let z = states-length L p in
       let y = states-length L (L .states) in
-      let e : 6 + 4 * p + i ≡ length (headerBytes h) + (length (concatBelow p f) + i) = rw header-length (omega arith) in
-      let n = length-append (headerBytes h) (statesBytes L (L .states)) in
-      let m = header-length h in
+      let m = front-length in
+      let e : 6 + labelsLength h + 4 * p + i ≡ length front + (length (concatBelow p f) + i) = omega arith in
+      let n = length-append front (statesBytes L (L .states)) in
       rw e
-      (List·getD-append (headerBytes h ++ statesBytes L (L .states)) _ 0 (length (headerBytes h) + (length (concatBelow p f) + i)) (omega arith)
-      ∙ (getD-append-add (headerBytes h) (statesBytes L (L .states)) (length (concatBelow p f) + i) 0 ∙ concat-at f 0 (L .states) p i l k))
+      (List·getD-append (front ++ statesBytes L (L .states)) _ 0 (length front + (length (concatBelow p f) + i)) (omega arith)
+      ∙ (getD-append-add front (statesBytes L (L .states)) (length (concatBelow p f) + i) 0 ∙ concat-at f 0 (L .states) p i l k))
 
-  pub normal-state : (p : ℕ) → p < L .states → stateRecord (normal L) (normalHeader L) p ≡ normalState L p
+  pub normal-state : (p : ℕ) → p < L .states → stateRecord (normal K L) (normalHeader (K .named) L) p ≡ normalState L p
   unfolding stateRecord normalState transitions
   normal-state p l =
       let u = up-grows L (L .states) p (omega arith) in
       let b = w .bounds in
-      let v = first-small (length (transitionsBelow L p)) (length (transitionsBelow L (suc p))) in
-      state-back (normal L) (6 + 4 * p) (normalState L p) (omega arith) (λ j k. state-byte p j l k)
+      let v = index-small (length (transitionsBelow L p)) (length (transitionsBelow L (suc p))) in
+      state-back (normal K L) (6 + labelsLength h + 4 * p) (normalState L p) (omega arith) (λ j k. state-byte p j l k)
 
   transition-at : (i j : ℕ) → i < length all → j < 6
-      → getD (normal L) (6 + 4 * L .states + 6 * i + j) 0 ≡ getD (transitionBytes (normalTransition (suc i) (nth all i) (drop (suc i) all))) j 0
-  unfolding normal
+      → getD (normal K L) (6 + labelsLength h + 4 * L .states + 6 * i + j) 0
+      ≡ getD (transitionBytes (normalTransition (suc i) (nth all i) (drop (suc i) all))) j 0
+  unfolding normal sheetBytes
   transition-at i j l k =
-      let a = headerBytes h ++ statesBytes L (L .states) in
+      let a = front ++ statesBytes L (L .states) in
       let y = states-length L (L .states) in
-      let n = length-append (headerBytes h) (statesBytes L (L .states)) in
-      let m = header-length h in
-      let e : 6 + 4 * L .states + 6 * i + j ≡ length a + (6 * i + j) = omega arith in
+      let n = length-append front (statesBytes L (L .states)) in
+      let m = front-length in
+      let e : 6 + labelsLength h + 4 * L .states + 6 * i + j ≡ length a + (6 * i + j) = omega arith in
       rw e
       (getD-append-add a (transitionsBytes 1 all) (6 * i + j) 0 ∙ rw one-add at (transition-byte all 1 i j l k))
 
   pub normal-transition : (i : ℕ) → i < length (transitions L)
-      → transitionRecord (normal L) (normalHeader L) (suc i) ≡ normalTransition (suc i) (nth (transitions L) i) (drop (suc i) (transitions L))
+      → transitionRecord (normal K L) (normalHeader (K .named) L) (suc i) ≡ normalTransition (suc i) (nth (transitions L) i) (drop (suc i) (transitions L))
   unfolding transitionRecord normalTransition transitions
   normal-transition i l =
       let b = w .bounds in
@@ -132,5 +168,5 @@ module _ (L : Lts) (w : Encodable L) where
       let n = next-small (suc i) (nth all i) (drop (suc i) all) in
       let at₀ : suc i - 1 ≡ i = omega arith in
       rw at₀
-      (transition-back (normal L) (6 + 4 * L .states + 6 * i) (normalTransition (suc i) (nth all i) (drop (suc i) all)) (omega arith) (omega arith)
-      (λ j k. transition-at i j l k))
+      (transition-back (normal K L) (6 + labelsLength h + 4 * L .states + 6 * i) (normalTransition (suc i) (nth all i) (drop (suc i) all)) (omega arith)
+      (omega arith) (λ j k. transition-at i j l k))

@@ -1,4 +1,4 @@
--- The normal form of a system that a sheet can hold is readable, with the system's counts as header, and denotes the system.
+-- The normal form of labels and a system that a sheet can hold is readable, with the system's counts and the kind as header, and denotes the system.
 use Prim.Native.Nat.{ℕ, zero, suc, _+_, _*_, _≤_, _<_}
 use mathlib.Core.Path.{_≡_, refl, sym, ap, _∙_, fun-ext}
 use mathlib.Core.Bool.{Bool, true, false, cond}
@@ -12,6 +12,7 @@ use lib.Dec.{T, eqb}
 use Rattle.encoding.specs.declared.Header.{Header}
 use Rattle.encoding.specs.Encoding.{chain, member, successor, successorsFit}
 use Rattle.encoding.specs.Denotation.{ltsOf}
+use Rattle.encoding.specs.Labels.{Labelling}
 use Rattle.lts.specs.System.{Lts}
 use Rattle.lts.specs.Transitions.{transitionsOf}
 use Rattle.normal_form.specs.Normal.{normalHeader, normal}
@@ -22,65 +23,72 @@ use Rattle.lts.proofs.Below.{all-of, T-true, true-T}
 use Rattle.encoding.proofs.Denotation.{lts-states, lts-actions, lts-terminating, lts-ends, transition-member, sound}
 use Rattle.transitions.proofs.Codes.{code, codes-distinct, codes-in, codes-out}
 use Rattle.normal_form.proofs.NormalReads.{normal-header}
+use Rattle.normal_form.proofs.NormalLabels.{labels-ok}
 use Rattle.normal_form.proofs.NormalChains.{recorded, chains-ok, successors-on, chain-on, state-is}
 
-module _ (L : Lts) (w : Encodable L) where
+module _ (K : Labelling) (L : Lts) (w : Encodable K L) where
   abbrev h : Header
-  h = normalHeader L
+  h = normalHeader (K .named) L
 
   -- ## Rule 6
-  pub chain-codes : (p : ℕ) → p < L .states → map (successor (normal L) h) (chain (normal L) h p) ≡ map code (transitionsOf L p)
-  chain-codes p l = rw (chain-on L w p l) (rw add-zero at (successors-on L w p l (length (transitionsOf L p)) 0 (omega arith)))
+  pub chain-codes : (p : ℕ) → p < L .states → map (successor (normal K L) h) (chain (normal K L) h p) ≡ map code (transitionsOf L p)
+  chain-codes p l = rw (chain-on K L w p l) (rw add-zero at (successors-on K L w p l (length (transitionsOf L p)) 0 (omega arith)))
 
-  successors-ok : successorsFit (normal L) h ≡ true
+  successors-ok : successorsFit (normal K L) h ≡ true
   unfolding successorsFit
   successors-ok = all-of (L .states) _ (λ p l. rw (chain-codes p l) (codes-distinct L (w .bounds .states) p))
 
-  pub normal-readable : ReadableAs (normal L) (normalHeader L)
-  normal-readable = record { recorded = recorded L w; header = sym (normal-header L w); chains = chains-ok L w; successors = successors-ok }
+  pub normal-readable : ReadableAs (normal K L) (normalHeader (K .named) L)
+  normal-readable = record {
+    recorded = recorded K L w;
+    header = sym (normal-header K L w);
+    labels = labels-ok K L w;
+    chains = chains-ok K L w;
+    successors = successors-ok;
+  }
 
   -- ## The same Lts
-  same-transition : (p a t : ℕ) → ltsOf (normal L) .transition p a t ≡ L .transition p a t
+  same-transition : (p a t : ℕ) → ltsOf (normal K L) .transition p a t ≡ L .transition p a t
   same-transition p a t = test-ext _ _ forth (back a)
     where
-      forth : T (ltsOf (normal L) .transition p a t) → T (L .transition p a t)
+      forth : T (ltsOf (normal K L) .transition p a t) → T (L .transition p a t)
       forth x =
           let e = T-true _ x in
-          let k = sound (normal L) h normal-readable p a t e in
+          let k = sound (normal K L) h normal-readable p a t e in
           let b = w .bounds .states in
-          let on = transition-member (normal L) h normal-readable p a t (k .source) (k .target) in
+          let on = transition-member (normal K L) h normal-readable p a t (k .source) (k .target) in
           true-T _ (codes-out L b p a t (omega (arith, k, b)) (sym (ap (member (256 * a + t)) (chain-codes p (k .source))) ∙ (sym on ∙ e)))
 
-      back : (a : ℕ) → T (L .transition p a t) → T (ltsOf (normal L) .transition p a t)
+      back : (a : ℕ) → T (L .transition p a t) → T (ltsOf (normal K L) .transition p a t)
       back zero x = absurd (not-suc-le-zero (w .formed .action p zero t x .0))
       back (suc a) x =
           let l = w .formed .source p (suc a) t x in
           let to = w .formed .target p (suc a) t x in
           let high = w .formed .action p (suc a) t x .1 in
           true-T _
-          (transition-member (normal L) h normal-readable p (suc a) t l to
+          (transition-member (normal K L) h normal-readable p (suc a) t l to
           ∙ (ap (member (256 * suc a + t)) (chain-codes p l) ∙ codes-in L (w .bounds .states) p a t high to (T-true _ x)))
 
-  same-terminating : (p : ℕ) → ltsOf (normal L) .terminating p ≡ L .terminating p
+  same-terminating : (p : ℕ) → ltsOf (normal K L) .terminating p ≡ L .terminating p
   same-terminating p = go (decLt p (L .states))
     where
       mark : (b : Bool) → eqb (cond b 1 0) 1 ≡ b
       mark true = refl
       mark false = refl
 
-      go : Dec (p < L .states) → ltsOf (normal L) .terminating p ≡ L .terminating p
+      go : Dec (p < L .states) → ltsOf (normal K L) .terminating p ≡ L .terminating p
       go (yes l) =
-          lts-terminating (normal L) h (normal-readable .header) p
-          ∙ rw (lt-ltb p (L .states) l) (ap (λ r. eqb (r .mark) 1) (state-is L w p l) ∙ mark (L .terminating p))
+          lts-terminating (normal K L) h (normal-readable .header) p
+          ∙ rw (lt-ltb p (L .states) l) (ap (λ r. eqb (r .mark) 1) (state-is K L w p l) ∙ mark (L .terminating p))
       go (no l) =
           let out : L .states ≤ p = omega (arith, l) in
-          let n = lts-states (normal L) h (normal-readable .header) in
-          lts-ends (normal L) h (normal-readable .header) p (omega (arith, out, n)) ∙ sym (w .ends p out)
+          let n = lts-states (normal K L) h (normal-readable .header) in
+          lts-ends (normal K L) h (normal-readable .header) p (omega (arith, out, n)) ∙ sym (w .ends p out)
 
-  pub same : ltsOf (normal L) ≡ L
+  pub same : ltsOf (normal K L) ≡ L
   same =
-      let states = lts-states (normal L) h (normal-readable .header) in
-      let actions = lts-actions (normal L) h (normal-readable .header) in
+      let states = lts-states (normal K L) h (normal-readable .header) in
+      let actions = lts-actions (normal K L) h (normal-readable .header) in
       λ i.
       record {
         states = states i;

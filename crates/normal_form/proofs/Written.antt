@@ -1,9 +1,10 @@
 -- The normal form of a table's system, written record by record.
 use Prim.Native.Nat.{ℕ, _+_, _*_, _≤_, _<_}
 use mathlib.Core.Path.{_≡_, refl, sym, ap, _∙_, subst}
-use mathlib.Core.Bool.{cond}
+use mathlib.Core.Bool.{Bool, cond}
 use mathlib.Core.List.{List, [], _∷_, _++_}
 use native.Mathlib.Omega.{arith}
+use native.Mathlib.Nat.{zero-add, add-zero}
 use native.Mathlib.Numerals.{add-one}
 use lib.ListN.{length, drop, length-append}
 use lib.Seq.{sets, sets-eq}
@@ -15,35 +16,43 @@ use Rattle.lts.proofs.Lists.{concat-more, sets-append}
 use Rattle.encoding.specs.declared.Header.{Header}
 use Rattle.encoding.specs.declared.StateRecord.{StateRecord}
 use Rattle.encoding.specs.declared.TransitionRecord.{TransitionRecord}
-use Rattle.encoding.specs.Records.{headerBytes, stateBytes, transitionBytes, stateAt, transitionAt, encodingLength}
+use Rattle.encoding.specs.Records.{headerBytes, stateBytes, transitionBytes, labelsLength, stateAt, transitionAt, encodingLength}
 use Rattle.encoding.specs.Checked.{Bounds}
 use Rattle.transitions.specs.Table.{statesOf, countOf, markAt, offsetAt, sourceAt, entryAt, tableLts, Formed}
-use Rattle.normal_form.specs.Normal.{firstIndex, nextIndex, normalHeader, normalState, normalTransition, statesBytes, transitionsBytes, normal}
+use Rattle.normal_form.specs.Normal.{firstIndex, nextIndex, normalHeader, normalState, normalTransition, statesBytes, transitionsBytes, sheetBytes}
 use Rattle.normal_form.specs.Written.{Counts, transitionsFrom}
 use Rattle.transitions.proofs.Filled.{transitions-count}
 use Rattle.normal_form.proofs.Tables.{from-more, from-none}
-use Rattle.normal_form.proofs.Bytes.{record-length, states-length, header-length, normal-length, mark-small}
-use Rattle.normal_form.proofs.Encodable.{formed-encodable}
+use Rattle.normal_form.proofs.Bytes.{record-length, states-length, header-length, sheet-long, mark-small}
+use Rattle.normal_form.proofs.Encodable.{table-bounds}
 
 -- ## State records, one after the other
 module _ (L : Lts) where
-  pub states-none : (o : List ℕ) → o ≡ sets o 6 (statesBytes L 0)
+  pub states-none : (base : ℕ) (o : List ℕ) → o ≡ sets o base (statesBytes L 0)
   unfolding statesBytes concatBelow
-  states-none o = refl
+  states-none base o = refl
 
-  pub states-step : (p : ℕ) {r : StateRecord} (o₀ o o′ : List ℕ) → o ≡ sets o₀ 6 (statesBytes L p) → r ≡ normalState L p
-      → o′ ≡ sets o (6 + 4 * p) (stateBytes r) → o′ ≡ sets o₀ 6 (statesBytes L (p + 1))
+  pub states-step : (base p : ℕ) {r : StateRecord} (o₀ o o′ : List ℕ) → o ≡ sets o₀ base (statesBytes L p) → r ≡ normalState L p
+      → o′ ≡ sets o (base + 4 * p) (stateBytes r) → o′ ≡ sets o₀ base (statesBytes L (p + 1))
   unfolding statesBytes
-  states-step p o₀ o o′ q e w = w ∙ rw (q, e, concat-more, sets-append, states-length L p)
+  states-step base p o₀ o o′ q e w = w ∙ rw (q, e, concat-more, sets-append, states-length L p)
+
+  pub states-end : (base p n : ℕ) (o₀ o : List ℕ) → o ≡ sets o₀ base (statesBytes L p) → n ≡ p → o ≡ sets o₀ (base + 4 * 0) (statesBytes L n)
+  states-end base p n o₀ o q e = q ∙ rw (e, add-zero)
 
 module _ (t : List ℕ) (ok : Formed t) where
   -- ## The header
-  counts-header : {h : Header} → Counts t h → normalHeader (tableLts t) ≡ h
+  pub counts-header : {h : Header} {named : Bool} → Counts t h → h .named ≡ named → normalHeader named (tableLts t) ≡ h
   unfolding tableLts
-  counts-header c = λ i. record { states = sym (c .states) i; actions = sym (c .actions) i; transitions = (transitions-count t ok ∙ sym (c .transitions)) i }
+  counts-header c kind = λ i. record {
+    states = sym (c .states) i;
+    actions = sym (c .actions) i;
+    transitions = (transitions-count t ok ∙ sym (c .transitions)) i;
+    named = sym kind i;
+  }
 
   pub counts-bounds : {h : Header} → Counts t h → Bounds h
-  counts-bounds c = subst Bounds (counts-header c) (formed-encodable t ok .bounds)
+  counts-bounds {h} c = subst Bounds (counts-header c refl) (table-bounds t ok (h .named))
 
   -- ## The record of a state
   pub mark-byte : (p : ℕ) → p < statesOf t → markAt t p < 256
@@ -91,7 +100,12 @@ module _ (t : List ℕ) (ok : Formed t) where
   transitions-end base i o l = rw (from-none t ok i l)
 
   -- ## The whole
-  module _ {h : Header} (c : Counts t h) where
+  -- what follows the first part of the bytes
+  behind : (o front next : List ℕ) (at : ℕ) → at ≡ length front → sets (sets o 0 front) at next ≡ sets o 0 (front ++ next)
+  behind o front next at e = ap (λ (i : ℕ). sets (sets o 0 front) i next) (e ∙ sym (zero-add (length front))) ∙ sym (sets-append o 0 front next)
+
+  module _ {h : Header} {named : Bool} (c : Counts t h) (kind : h .named ≡ named) (labels : List ℕ)
+      (long : length labels ≡ labelsLength (normalHeader named (tableLts t))) where
     abbrev header : List ℕ
     header = headerBytes h
 
@@ -101,21 +115,24 @@ module _ (t : List ℕ) (ok : Formed t) where
     abbrev records : List ℕ
     records = transitionsBytes 1 (transitions (tableLts t))
 
-    parts : normal (tableLts t) ≡ header ++ states ++ records
-    unfolding normal tableLts
-    parts = rw (counts-header c, c .states)
+    abbrev bytes : List ℕ
+    bytes = sheetBytes named labels (tableLts t)
 
-    pub normal-size : length (normal (tableLts t)) ≡ encodingLength h
-    normal-size = normal-length (tableLts t) ∙ ap encodingLength (counts-header c)
+    parts : header ++ labels ++ states ++ records ≡ bytes
+    unfolding sheetBytes tableLts
+    parts = rw (counts-header c kind, c .states)
 
-    pub whole : (o : List ℕ) → length (normal (tableLts t)) ≤ length o
-        → sets (sets (sets o 0 header) (stateAt h 0) states) (transitionAt h 1) records ≡ normal (tableLts t) ++ drop (length (normal (tableLts t))) o
+    pub whole : (o : List ℕ) → encodingLength (normalHeader named (tableLts t)) ≤ length o
+        → sets (sets (sets (sets o 0 header) 6 labels) (stateAt h 0) states) (transitionAt h 1) records ≡ bytes ++ drop (length bytes) o
     whole o room =
         let a = header-length h in
         let b = states-length (tableLts t) (h .states) in
-        let n = length-append header states in
-        let x : stateAt h 0 ≡ 0 + length header = omega arith in
-        let y : transitionAt h 1 ≡ 0 + length (header ++ states) = omega arith in
-        let z : 0 + length (normal (tableLts t)) ≡ length (normal (tableLts t)) = omega arith in
-        rw (y, x, ← sets-append o 0 header states, ← sets-append o 0 (header ++ states) records, ← parts)
-        (sets-eq (normal (tableLts t)) o 0 (omega arith) ∙ ap (λ (i : ℕ). normal (tableLts t) ++ drop i o) z)
+        let size : length labels ≡ labelsLength h = long ∙ ap labelsLength (counts-header c kind) in
+        let n = length-append header labels in
+        let m = length-append (header ++ labels) states in
+        let all = sheet-long named labels (tableLts t) long in
+        let z : 0 + length bytes ≡ length bytes = zero-add (length bytes) in
+        ap (λ (l : List ℕ). sets (sets l (stateAt h 0) states) (transitionAt h 1) records) (behind o header labels 6 (sym a))
+        ∙ ap (λ (l : List ℕ). sets l (transitionAt h 1) records) (behind o (header ++ labels) states (stateAt h 0) (omega (arith, a, size, n)))
+        ∙ behind o (header ++ labels ++ states) records (transitionAt h 1) (omega (arith, a, b, size, n, m))
+        ∙ ap (sets o 0) parts ∙ sets-eq bytes o 0 (omega (arith, all, room)) ∙ ap (λ (i : ℕ). bytes ++ drop i o) z

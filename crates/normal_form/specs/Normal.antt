@@ -1,7 +1,7 @@
--- The normal form as a function of the Lts: what `normalise` writes. That it is in normal form (specs/NormalForm.antt), and the only such
--- encoding of its Lts, is the law `normal-form` (proofs/Laws.antt).
+-- The normal form as a function of the labelling and the Lts: what `normalise` writes. That it is in normal form (specs/NormalForm.antt), and
+-- the only such encoding of both, is the law `normal-form` (proofs/Laws.antt).
 use Prim.Native.Nat.{ℕ, suc, _+_}
-use mathlib.Core.Bool.{cond}
+use mathlib.Core.Bool.{Bool, cond}
 use mathlib.Core.List.{List, [], _∷_, _++_}
 use lib.ListN.{length}
 use lib.Dec.{eqb}
@@ -12,6 +12,7 @@ use Rattle.encoding.specs.declared.Header.{Header}
 use Rattle.encoding.specs.declared.StateRecord.{StateRecord}
 use Rattle.encoding.specs.declared.TransitionRecord.{TransitionRecord}
 use Rattle.encoding.specs.Records.{headerBytes, stateBytes, transitionBytes}
+use Rattle.encoding.specs.Labels.{Labelling, labelsBytes}
 
 -- the first index of a state whose transitions stand after the first i and up to the first j of all; 0 where it has none
 unfoldable pub firstIndex : ℕ → ℕ → ℕ
@@ -23,8 +24,8 @@ nextIndex i x [] = 0
 nextIndex i x (y ∷ l) = cond (eqb (y .source) (x .source)) (i + 1) 0
 
 -- the header and the records of the normal form
-abbrev pub normalHeader : Lts → Header
-normalHeader L = record { states = L .states; actions = L .actions; transitions = length (transitions L) }
+abbrev pub normalHeader : Bool → Lts → Header
+normalHeader named L = record { states = L .states; actions = L .actions; transitions = length (transitions L); named = named }
 
 unfoldable pub normalState : Lts → ℕ → StateRecord
 normalState L p = record {
@@ -44,5 +45,13 @@ unfoldable pub transitionsBytes : ℕ → List Transition → List ℕ
 transitionsBytes i [] = []
 transitionsBytes i (x ∷ l) = transitionBytes (normalTransition i x l) ++ transitionsBytes (suc i) l
 
-unfoldable pub normal : Lts → List ℕ
-normal L = headerBytes (normalHeader L) ++ statesBytes L (L .states) ++ transitionsBytes 1 (transitions L)
+-- a sheet of the Lts, with the bytes of its labels between header and records
+unfoldable pub sheetBytes : Bool → List ℕ → Lts → List ℕ
+sheetBytes named labels L = headerBytes (normalHeader named L) ++ labels ++ statesBytes L (L .states) ++ transitionsBytes 1 (transitions L)
+
+-- the label records of a sheet: a plain one has none
+unfoldable pub recordsOf : Labelling → List ℕ
+recordsOf K = cond (K .named) (labelsBytes (K .labels)) []
+
+unfoldable pub normal : Labelling → Lts → List ℕ
+normal K L = sheetBytes (K .named) (recordsOf K) L

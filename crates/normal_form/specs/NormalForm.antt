@@ -1,12 +1,12 @@
 -- Normal form in document 01's words ("The sheet"): records ordered by source page, then action, then target; each chain consecutive and in
--- that order. The law `normal-form` (proofs/Laws.antt) says that `normal` writes it of every system that a sheet can hold, and that there is
--- no other.
+-- that order; one for each kind (document 02, L2). The law `normal-form` (proofs/Laws.antt) says that `normal` writes it of every labelling
+-- and system that a sheet can hold, and that there is no other.
 use Prim.Native.Nat.{ℕ, suc, _+_, _≤_, _<_}
 use mathlib.Core.Path.{_≡_}
 use mathlib.Core.Bool.{Bool, true, false, _&&_, _||_}
-use mathlib.Core.List.{List}
+use mathlib.Core.List.{List, []}
 use lib.ListN.{length, getD}
-use lib.Dec.{ltb, eqb}
+use lib.Dec.{T, ltb, eqb}
 use Rattle.lts.specs.Bounded.{allBelow, listBelow}
 use Rattle.lts.specs.System.{Lts, WellFormed}
 use Rattle.encoding.specs.declared.Header.{Header}
@@ -16,6 +16,9 @@ use Rattle.encoding.specs.Records.{transitionRecord}
 use Rattle.encoding.specs.Encoding.{reached, readEncoding}
 use Rattle.encoding.specs.Denotation.{ltsOf}
 use Rattle.encoding.specs.Checked.{Bounds}
+use Rattle.lts.specs.Places.{distinct}
+use Rattle.lts.specs.Labels.{sameLabel}
+use Rattle.encoding.specs.Labels.{Labelling, labellingOf, decimalLabel, labelFits}
 use Rattle.normal_form.specs.Normal.{normalHeader}
 
 -- r comes before q: by action, then target
@@ -37,18 +40,28 @@ pub record IsNormal (s : List ℕ) (h : Header) : Type 0 where
 abbrev pub IsBytes : List ℕ → Type 0
 IsBytes s = (i : ℕ) → i < length s → getD s i 0 < 256
 
--- a system that a sheet can hold: well formed, within the limits of document 01, with no end mark outside its states
-pub record Encodable (L : Lts) : Type 0 where
+-- labels that a sheet of m actions can hold: one for each action; in a plain sheet the decimal digits, in a named one names, none twice
+pub record Labelled (K : Labelling) (m : ℕ) : Type 0 where
+  pub count : length (K .labels) ≡ m
+  pub plain : K .named ≡ false → K .labels ≡ listBelow m (λ i. decimalLabel (suc i))
+  pub long : (i : ℕ) → i < m → length (getD (K .labels) i []) ≡ 16
+  pub fit : (i : ℕ) → i < m → labelFits (getD (K .labels) i []) ≡ true
+  pub once : T (distinct sameLabel (K .labels))
+
+-- a labelling and a system that a sheet can hold: well formed, within the limits of document 01, with no end mark outside its states
+pub record Encodable (K : Labelling) (L : Lts) : Type 0 where
   pub formed : WellFormed L
   pub ends : (p : ℕ) → L .states ≤ p → L .terminating p ≡ false
-  pub bounds : Bounds (normalHeader L)
+  pub bounds : Bounds (normalHeader (K .named) L)
+  pub labelled : Labelled K (L .actions)
 
--- t is the normal form of L
-pub record NormalForm (L : Lts) (t : List ℕ) : Type 0 where
-  -- it is a sequence of bytes; it is read, with the counts of L as header, and denotes L
+-- t is the normal form of L with the kind and labels K
+pub record NormalForm (K : Labelling) (L : Lts) (t : List ℕ) : Type 0 where
+  -- it is a sequence of bytes; it is read, with the counts of L and the kind as header, has the labels, and denotes L
   pub bytes : IsBytes t
-  pub reads : readEncoding t ≡ Readable (normalHeader L)
+  pub reads : readEncoding t ≡ Readable (normalHeader (K .named) L)
+  pub labelling : labellingOf t ≡ K
   pub same : ltsOf t ≡ L
-  -- it is in normal form, and there is no other: every readable sequence of bytes in normal form that denotes L is t
-  pub normal : IsNormal t (normalHeader L)
-  pub only : (u : List ℕ) (h : Header) → IsBytes u → readEncoding u ≡ Readable h → IsNormal u h → ltsOf u ≡ L → u ≡ t
+  -- it is in normal form, and there is no other: every readable sequence of bytes in normal form with this kind, these labels and this Lts is t
+  pub normal : IsNormal t (normalHeader (K .named) L)
+  pub only : (u : List ℕ) (h : Header) → IsBytes u → readEncoding u ≡ Readable h → IsNormal u h → labellingOf u ≡ K → ltsOf u ≡ L → u ≡ t

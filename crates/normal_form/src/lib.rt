@@ -1,4 +1,4 @@
-// The writer of the normal form (document 01, "The sheet"), and normalise.
+// The writer of the normal form (document 01, "The sheet"; document 02, L2), and normalise.
 ghost use Prim.Native.Nat.{_+_, _<_, _≤_};
 ghost use mathlib.Core.Path.{_≡_};
 ghost use mathlib.Core.List.{_++_};
@@ -6,9 +6,9 @@ ghost use lib.ListN.{length, drop};
 ghost use lib.Seq.{sets};
 ghost use Rattle.lts.specs.Rule.{checkedReply};
 ghost use Rattle.lts.specs.Transitions.{transitions};
-ghost use Rattle.encoding.specs.Records.{stateAt, transitionAt, encodingLength};
+ghost use Rattle.encoding.specs.Records.{labelsLength, stateAt, transitionAt, encodingLength};
 ghost use Rattle.transitions.specs.Table.{statesOf, countOf, entryAt, tableLts, Formed};
-ghost use Rattle.normal_form.specs.Normal.{firstIndex, nextIndex, normalState, normalTransition, statesBytes, transitionsBytes, normal};
+ghost use Rattle.normal_form.specs.Normal.{firstIndex, nextIndex, normalHeader, normalState, normalTransition, statesBytes, transitionsBytes, sheetBytes};
 ghost use Rattle.normal_form.specs.Normalise.{normaliseCall, NormalisePromise};
 ghost use Rattle.normal_form.specs.Written.{Counts, transitionsFrom};
 
@@ -58,13 +58,25 @@ fn table_transition(table: &transitions::Table, i: usize) -> encoding::Transitio
     encoding::TransitionRecord::new(action, 0, target, next_index(table, i))
 }
 
-// The header, from the counts.
-fn table_header(table: &transitions::Table) -> encoding::Header
-    ensures { λ r. ⌜ Counts (now (table .entry)) r ⌝ }
+// The header, from the counts and the kind.
+fn table_header(table: &transitions::Table, named: bool) -> encoding::Header
+    ensures { λ r. ⌜ Counts (now (table .entry)) r × (r .named ≡ named) ⌝ }
 {
     let n = transitions::states(table);
     let m = transitions::actions(table);
-    encoding::Header::new(n, m, transitions::count(table))
+    encoding::Header::new(n, m, transitions::count(table), named)
+}
+
+// Writes the label records.
+fn write_labels(out: &mut [u8], labels: &[u8])
+    requires { ⌜ 6 + length (now labels) ≤ length (now out) ⌝ }
+    ensures { λ _. ⌜ now (out .exit) ≡ sets (now (out .entry)) 6 (now (labels .entry)) ⌝ }
+{
+    let mut i = 0;
+    while i < labels.len() {
+        out[encoding::Header::BYTES + i] = labels[i];
+        i += 1;
+    }
 }
 
 // Writes the state records.
@@ -95,28 +107,30 @@ fn write_transitions(out: &mut [u8], h: encoding::Header, table: &transitions::T
     }
 }
 
-// The length of the normal form of the table's system.
-pub fn table_length(table: &transitions::Table) -> usize
+// The length of a sheet of the table's system.
+pub fn table_length(table: &transitions::Table, named: bool) -> usize
     requires { ⌜ Formed (now table) ⌝ }
-    ensures { λ r. ⌜ r ≡ length (normal (tableLts (now (table .entry)))) ⌝ }
+    ensures { λ r. ⌜ r ≡ encodingLength (normalHeader named (tableLts (now (table .entry)))) ⌝ }
 {
-    table_header(table).length()
+    table_header(table, named).length()
 }
 
-// Writes the normal form of the table's system at the start of the buffer.
-pub fn write_table(table: &transitions::Table, out: &mut [u8])
-    requires { ⌜ Formed (now table) × (length (normal (tableLts (now table))) ≤ length (now out)) ⌝ }
-    ensures { λ _. ⌜ (let bytes = normal (tableLts (now (table .entry))) in
+// Writes the normal sheet of the table's system, with the bytes of its label records, at the start of the buffer.
+pub fn write_table(table: &transitions::Table, named: bool, labels: &[u8], out: &mut [u8])
+    requires { ⌜ Formed (now table) × (length (now labels) ≡ labelsLength (normalHeader named (tableLts (now table))))
+        × (encodingLength (normalHeader named (tableLts (now table))) ≤ length (now out)) ⌝ }
+    ensures { λ _. ⌜ (let bytes = sheetBytes named (now (labels .entry)) (tableLts (now (table .entry))) in
         now (out .exit) ≡ bytes ++ drop (length bytes) (now (out .entry))) ⌝ }
 {
-    let h = table_header(table);
+    let h = table_header(table, named);
     h.put(out);
+    write_labels(out, labels);
     write_states(out, h, table);
     write_transitions(out, h, table);
 }
 
-// Writes an encoding's normal form, the only one that its Lts has. An encoding that is refused, and a buffer of another length than the
-// encoding's own, leave the buffer as it is.
+// Writes an encoding's normal form, the only one that its kind, labels and Lts have. An encoding that is refused, and a buffer of another
+// length than the encoding's own, leave the buffer as it is.
 pub fn normalise(s: &[u8], out: &mut [u8]) -> lts::Checked
     ensures { λ r. ⌜ normaliseCall (now (s .entry)) (now (out .entry)) ≡ record { reply = checkedReply r; out = now (out .exit) } ⌝ }
     ensures { λ r. ⌜ NormalisePromise (now (s .entry)) (now (out .entry)) (checkedReply r) (now (out .exit)) ⌝ }
@@ -129,7 +143,7 @@ pub fn normalise(s: &[u8], out: &mut [u8]) -> lts::Checked
                 return lts::Checked::Refused(lts::Refusal::Buffer);
             }
             let table = transitions::load(s, h);
-            write_table(&table, out);
+            write_table(&table, h.named, encoding::label_bytes(s, h), out);
             lts::Checked::Passed
         }
     }

@@ -5,10 +5,10 @@ use mathlib.Core.Bool.{Bool, true, false, not}
 use mathlib.Core.Logic.{⊎-elim}
 use native.Mathlib.Omega.{arith}
 use native.Mathlib.Nat.{not-suc-le-zero}
-use borrow.Author.Tests.{eqb-true, eq-eqb, not-false}
+use borrow.Author.Tests.{eqb-true, eqb-false, eq-eqb, not-true, not-false}
 use lib.Dec.{eqb}
 use Rattle.lts.specs.Bounded.{allBelow, lowest}
-use Rattle.lts.proofs.Below.{lt-or-ge, bool-iff, all-of, all-at, lowest-le, lowest-before, lowest-is, lowest-none}
+use Rattle.lts.proofs.Below.{lt-or-ge, bool-iff, all-of, all-at, lowest-le, lowest-at, lowest-before, lowest-is, lowest-none}
 
 pub record NoneBelow (f : ℕ → Bool) (i : ℕ) : Type 0 where
   pub fails : (x : ℕ) → x < i → f x ≡ false
@@ -37,3 +37,11 @@ lowest-all k f =
     let q = eqb-true (lowest k (λ i. not (f i))) k e in
     all-of k f (λ i l. not-false (f i) (lowest-before k (λ i. not (f i)) i (omega (arith, q, l)))))
     (λ a. eq-eqb _ _ (sym (lowest-none k (λ i. not (f i)) (λ i l. ap not (all-at k f a i l)))))
+
+-- where not all pass, one that fails
+pub some-fails : (k : ℕ) (f : ℕ → Bool) → allBelow k f ≡ false → (i : ℕ) × (i < k) × (f i ≡ false)
+some-fails k f e =
+    let g : ℕ → Bool = λ i. not (f i) in
+    let n = eqb-false (lowest k g) k (lowest-all k f ∙ e) in
+    let l : lowest k g < k = omega (arith, n, lowest-le k g) in
+    (lowest k g, l, not-true _ (lowest-at k g l))

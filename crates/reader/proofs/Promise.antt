@@ -1,7 +1,7 @@
--- What is promised of read: what the refusals 5 and 16 say of the record, and what their absence says of all.
+-- What is promised of read: what the refusals 17, 5 and 16 say of the names and of the record, and what their absence says of all.
 use Prim.Native.Nat.{ℕ, _+_, _-_, _≤_}
 use mathlib.Core.Path.{_≡_, refl, sym, ap, _∙_}
-use mathlib.Core.Logic.{_⊎_, ⊎-elim}
+use mathlib.Core.Logic.{⊎-elim}
 use mathlib.Core.Bool.{Bool, true, false, not}
 use mathlib.Core.List.{List}
 use native.Mathlib.Omega.{arith}
@@ -18,6 +18,7 @@ use Rattle.encoding.specs.declared.Header.{Header}
 use Rattle.encoding.specs.declared.Reading.{Reading}
 use Rattle.encoding.specs.declared.Reading.the-variants.{Readable, Refused}
 use Rattle.encoding.specs.Records.{headerOf}
+use Rattle.encoding.specs.Labels.{labelsFit}
 use Rattle.encoding.specs.Checked.{Recorded}
 use Rattle.encoding.specs.Encoding.{reached, onSomeChain, allReached, namedTwice, noneTwice, occurrences, lowestRecord, headedRules, sheetRules, readEncoding}
 use Rattle.encoding.specs.Read.{readingReply, counted, OnSomeChain, NamedTwice, Lowest, ReadPromise}
@@ -26,6 +27,7 @@ use Rattle.encoding.proofs.OnChain.{on-chain-iff}
 use Rattle.encoding.proofs.Naming.{named-iff, none-twice-distinct}
 use Rattle.encoding.proofs.Reader.{in-range, sheet-passed, kept-readable, kept-chains}
 use Rattle.encoding.proofs.Laws.{denoted}
+use Rattle.reader.proofs.Labels.{well-named, misnamed-by}
 
 -- ## The lowest record of which a test holds
 module _ (h : Header) (f : ℕ → Bool) (Fault Sound : ℕ → Type 0) where
@@ -46,22 +48,53 @@ module _ (s : List ℕ) where
   abbrev h : Header
   h = headerOf s
 
-  -- ## What the first broken rule says of the others, where it is 5, 16 or 6
-  pub recorded-by : {q : Refusal} → broken (sheetRules s) ≡ First q → 5 ≤ refusalNumber q → Recorded s h × (broken (drop 5 (headedRules s h)) ≡ First q)
+  -- ## What the first broken rule says of the others
+  -- it is neither 1 nor 2, so the labels' rule is the next
+  from-labels : {q : Refusal} → broken (sheetRules s) ≡ First q → (refusalNumber q ≡ 1 → ⊥) → (refusalNumber q ≡ 2 → ⊥)
+      → broken (drop 3 (headedRules s h)) ≡ First q
   unfolding sheetRules headedRules
-  recorded-by e l =
+  from-labels e a b =
+      let e₁ = past _ _ _ e (λ z. a (sym z)) in
+      let e₂ = past _ _ _ (e₁ .1) (λ z. b (sym z)) in
+      past _ _ _ (e₂ .1) (λ z. a (sym z)) .1
+
+  module _ {q : Refusal} (e : broken (drop 3 (headedRules s h)) ≡ First q) where
+    by-17 : refusalNumber q ≡ 17 → labelsFit s h ≡ false
+    unfolding headedRules
+    by-17 n = ⊎-elim (λ a. a .0)
+        (λ b.
+        let e₁ = past _ _ _ (b .1) (λ z. omega (arith, z, n)) in
+        let e₂ = past _ _ _ (e₁ .1) (λ z. omega (arith, z, n)) in
+        let e₃ = past _ _ _ (e₂ .1) (λ z. omega (arith, z, n)) in
+        let e₄ = past _ _ _ (e₃ .1) (λ z. omega (arith, z, n)) in
+        let e₅ = past _ _ _ (e₄ .1) (λ z. omega (arith, z, n)) in
+        absurd (never (e₅ .1))) (at-or-after _ _ _ e)
+
+    not-17 : (refusalNumber q ≡ 17 → ⊥) → labelsFit s h ≡ true
+    unfolding headedRules
+    not-17 n = past _ _ _ e (λ z. n (sym z)) .0
+
+  -- it is 5, 16 or 6
+  recorded-by : {q : Refusal} → broken (sheetRules s) ≡ First q → 5 ≤ refusalNumber q → refusalNumber q ≤ 16
+      → Recorded s h × (broken (drop 6 (headedRules s h)) ≡ First q)
+  unfolding sheetRules headedRules
+  recorded-by e l u =
       let e₁ = past _ _ _ e (λ z. omega (arith, z, l)) in
       let e₂ = past _ _ _ (e₁ .1) (λ z. omega (arith, z, l)) in
       let e₃ = past _ _ _ (e₂ .1) (λ z. omega (arith, z, l)) in
-      let e₄ = past _ _ _ (e₃ .1) (λ z. omega (arith, z, l)) in
+      let e₄ = past _ _ _ (e₃ .1) (λ z. omega (arith, z, u)) in
       let e₅ = past _ _ _ (e₄ .1) (λ z. omega (arith, z, l)) in
-      (record { sized = record { bounds = in-range _ (e₂ .0); long = eqb-true _ _ (e₃ .0) }; states = e₄ .0; transitions = e₅ .0 }, e₅ .1)
+      let e₆ = past _ _ _ (e₅ .1) (λ z. omega (arith, z, l)) in
+      (record { sized = record { bounds = in-range _ (e₂ .0); long = eqb-true _ _ (e₃ .0) }; states = e₅ .0; transitions = e₆ .0 }, e₆ .1)
 
-  module _ (g : Recorded s h) {q : Refusal} (e : broken (drop 5 (headedRules s h)) ≡ First q) where
+  module _ (g : Recorded s h) {q : Refusal} (e : broken (drop 6 (headedRules s h)) ≡ First q) where
     by-5 : refusalNumber q ≡ 5 → (allReached s h ≡ false) × (Unreached (lowestRecord h (λ j. not (onSomeChain s h j))) ≡ q)
     unfolding headedRules
     by-5 n = ⊎-elim (λ a. a)
-        (λ b. let e₁ = past _ _ _ (b .1) (λ z. omega (arith, z, n)) in let e₂ = past _ _ _ (e₁ .1) (λ z. omega (arith, z, n)) in absurd (never (e₂ .1))) (at-or-after _ _ _ e)
+        (λ b.
+        let e₁ = past _ _ _ (b .1) (λ z. omega (arith, z, n)) in
+        let e₂ = past _ _ _ (e₁ .1) (λ z. omega (arith, z, n)) in
+        absurd (never (e₂ .1))) (at-or-after _ _ _ e)
 
     by-16 : refusalNumber q ≡ 16 → (allReached s h ≡ true) × (noneTwice s h ≡ false) × (ReachedTwice (lowestRecord h (namedTwice s h)) ≡ q)
     unfolding headedRules
@@ -106,7 +139,8 @@ module _ (s : List ℕ) where
         omega (arith, some, distinct-once _ (none-twice-distinct s h g f) j)
 
   -- ## The promise
-  module _ {reply : Reply} (stops : (q : Refusal) → broken (sheetRules s) ≡ First q → reply ≡ refused q) (goes : broken (sheetRules s) ≡ Nothing → reply ≡ counted h) where
+  module _ {reply : Reply} (stops : (q : Refusal) → broken (sheetRules s) ≡ First q → reply ≡ refused q)
+      (goes : broken (sheetRules s) ≡ Nothing → reply ≡ counted h) where
     -- a refusal with this number is the first broken rule's
     refused-by : (x : ℕ) → 1 ≤ x → reply .refusal ≡ x → (q : Refusal) × (broken (sheetRules s) ≡ First q) × (refusalNumber q ≡ x) × (reply ≡ refused q)
     refused-by x l e = ⊎-elim (λ p. absurd (let z = ap (λ (r : Reply). r .refusal) (goes p) in omega (arith, z, e, l)))
@@ -115,15 +149,22 @@ module _ (s : List ℕ) where
     pub promised : ReadPromise s reply
     promised = record {
       refuses = stops;
+      misnamed = λ e.
+          let q = refused-by 17 (omega arith) e in
+          misnamed-by s h (by-17 (from-labels (q .1) (λ z. omega (arith, z, q .2)) (λ z. omega (arith, z, q .2))) (q .2));
+      named = λ a b c is. well-named s h is (⊎-elim (λ p. kept-readable s p .labels)
+          (λ q. let n = ap (λ (r : Reply). r .refusal) (stops (q .0) (q .1)) in
+          not-17 (from-labels (q .1) (λ z. a (n ∙ z)) (λ z. b (n ∙ z))) (λ z. c (n ∙ z))) (finding (sheetRules s)));
       unreached = λ e.
           let q = refused-by 5 (omega arith) e in
-          let k = recorded-by (q .1) (omega (arith, q .2)) in
+          let k = recorded-by (q .1) (omega (arith, q .2)) (omega (arith, q .2)) in
           let b = by-5 (k .0) (k .1) (q .2) in
-          let j : reply .recordNumber ≡ lowestRecord h (λ j. not (onSomeChain s h j)) = ap (λ (r : Reply). r .recordNumber) (q .3) ∙ ap refusalRecord (sym (b .1)) in
+          let j : reply .recordNumber ≡ lowestRecord h (λ j. not (onSomeChain s h j))
+          = ap (λ (r : Reply). r .recordNumber) (q .3) ∙ ap refusalRecord (sym (b .1)) in
           rw j (lowest-unreached (k .0) (b .0));
       twice = λ e.
           let q = refused-by 16 (omega arith) e in
-          let k = recorded-by (q .1) (omega (arith, q .2)) in
+          let k = recorded-by (q .1) (omega (arith, q .2)) (omega (arith, q .2)) in
           let b = by-16 (k .0) (k .1) (q .2) in
           let j : reply .recordNumber ≡ lowestRecord h (namedTwice s h) = ap (λ (r : Reply). r .recordNumber) (q .3) ∙ ap refusalRecord (sym (b .2)) in
           (rw j (lowest-twice (k .0) (b .1)), each-reached (k .0) (b .0));
@@ -133,7 +174,7 @@ module _ (s : List ℕ) where
       once = ⊎-elim
           (λ e.
           let q = refused-by 6 (omega arith) e in
-          let k = recorded-by (q .1) (omega (arith, q .2)) in
+          let k = recorded-by (q .1) (omega (arith, q .2)) (omega (arith, q .2)) in
           let b = by-6 (k .0) (k .1) (q .2) in
           each-once (k .0) (b .0) (b .1))
           (λ e. ⊎-elim

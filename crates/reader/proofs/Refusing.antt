@@ -24,7 +24,7 @@ module _ (s : List ℕ) (h : Header) {i : ℕ} (e : i ≡ lowest (h .transitions
   unfolding allReached
   reached-test = rw e (sym (lowest-all (h .transitions) (λ x. onSomeChain s h (x + 1))))
 
-  pub unreached-refused : i < h .transitions → broken (drop 5 (headedRules s h)) ≡ First (Unreached (i + 1))
+  pub unreached-refused : i < h .transitions → broken (drop 6 (headedRules s h)) ≡ First (Unreached (i + 1))
   unfolding headedRules
   unreached-refused l = rw e (stop _ _ _ refl (sym (reached-test ∙ ne-eqb i (h .transitions) (λ q. omega (arith, q, l)))) refl)
 
@@ -38,6 +38,6 @@ module _ (s : List ℕ) (h : Header) {i : ℕ} (e : i ≡ lowest (h .transitions
     some-twice =
         ⊎-elim (λ t. absurd (clash {b = chainsFit s h} (rw (none-twice-distinct s h g t, all-reached)) f)) (λ t. t) (either (noneTwice s h))
 
-    pub twice-refused : {j : ℕ} → j ≡ lowest (h .transitions) (λ x. namedTwice s h (x + 1)) → broken (drop 5 (headedRules s h)) ≡ First (ReachedTwice (j + 1))
+    pub twice-refused : {j : ℕ} → j ≡ lowest (h .transitions) (λ x. namedTwice s h (x + 1)) → broken (drop 6 (headedRules s h)) ≡ First (ReachedTwice (j + 1))
     unfolding headedRules
     twice-refused d = rw d (stop _ _ _ (pass _ _ _ refl (sym all-reached) refl) (sym some-twice) refl)

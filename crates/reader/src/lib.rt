@@ -1,18 +1,59 @@
-// Reads an encoding (document 01, "The sheet"): its header, or the first rule that it breaks, with the record that is off its chain (document 02, L1).
+// Reads an encoding (document 01, "The sheet"; document 02, L1 and L2): its header, or the first rule that it breaks, with the record that is off its chain.
 ghost use Prim.Native.Nat.{ℕ, _+_, _<_, _≤_};
 ghost use mathlib.Core.Path.{_≡_};
-ghost use mathlib.Core.Bool.{true, false, not};
-ghost use mathlib.Core.List.{map};
+ghost use mathlib.Core.Bool.{true, false, not, _&&_};
+ghost use mathlib.Core.List.{List, map};
 ghost use lib.Dec.{eqb, leb};
 ghost use lib.ListN.{length, getD, drop};
 ghost use Rattle.lts.specs.Bounded.{listBelow, lowest};
+ghost use Rattle.lts.specs.Places.{among};
+ghost use Rattle.lts.specs.Labels.{sameLabel};
 ghost use Rattle.lts.specs.Rule.{First, broken};
 ghost use Rattle.encoding.specs.Records.{stateRecord, transitionRecord};
 ghost use Rattle.encoding.specs.Encoding.{stateFits, transitionFits, statesFit, transitionsFit, chain, reached, onSomeChain, namedTwice};
 ghost use Rattle.encoding.specs.Encoding.{successor, successorsFit, headedRules, readEncoding};
+ghost use Rattle.encoding.specs.Labels.{labelFits, labelsFit};
 ghost use Rattle.encoding.specs.Checked.{Sized, Recorded, chainsFit};
 ghost use Rattle.encoding.specs.Read.{readingReply, ReadPromise};
+ghost use Rattle.labels.specs.Index.{Indexed};
 ghost use Rattle.reader.specs.Marks.{fresh, marked, ReachedBelow, Counted};
+
+// Whether a label is a good one and not in the index.
+fn fits_anew(index: &labels::Index, label: encoding::LabelRecord) -> bool
+    ensures { λ r. ⌜ ((J : List (List ℕ)) → Indexed J (now (index .entry)) → r ≡ labelFits (label .bytes) && not (among sameLabel J (label .bytes))) ⌝ }
+{
+    label.fits() & (labels::find_label(index, label) == 64)
+}
+
+// Rule 17, over all labels of a named sheet.
+fn named_fit(s: &[u8], h: encoding::Header) -> bool
+    requires { ⌜ (Sized (now s) h) × (h .named ≡ true) ⌝ }
+    ensures { λ r. ⌜ r ≡ labelsFit (now (s .entry)) h ⌝ }
+{
+    let mut index = [0u64; 512];
+    let m = h.actions;
+    let mut i = 0;
+    while i < m {
+        let label = encoding::label(s, h, i + 1);
+        if !fits_anew(&index, label) {
+            return false;
+        }
+        labels::add_label(&mut index, i, label);
+        i += 1;
+    }
+    true
+}
+
+// Rule 17, which a plain sheet keeps.
+fn labels_fit(s: &[u8], h: encoding::Header) -> bool
+    requires { ⌜ Sized (now s) h ⌝ }
+    ensures { λ r. ⌜ r ≡ labelsFit (now (s .entry)) h ⌝ }
+{
+    if !h.named {
+        return true;
+    }
+    named_fit(s, h)
+}
 
 // Rule 3, of state p.
 fn state_fits(s: &[u8], h: encoding::Header, p: usize) -> bool
@@ -217,7 +258,7 @@ fn lowest_named_twice(s: &[u8], h: encoding::Header) -> usize
 // The refusal of an encoding with a record on no chain or reached twice.
 fn chain_refusal(s: &[u8], h: encoding::Header) -> lts::Refusal
     requires { ⌜ (Recorded (now s) h) × (chainsFit (now s) h ≡ false) ⌝ }
-    ensures { λ r. ⌜ broken (drop 5 (headedRules (now (s .entry)) h)) ≡ First r ⌝ }
+    ensures { λ r. ⌜ broken (drop 6 (headedRules (now (s .entry)) h)) ≡ First r ⌝ }
 {
     let k = h.transitions;
     let i = lowest_unreached(s, h);
@@ -285,6 +326,9 @@ pub fn read_encoding(s: &[u8]) -> encoding::Reading
     }
     if s.len() != h.length() {
         return encoding::Reading::Refused(lts::Refusal::Length);
+    }
+    if !labels_fit(s, h) {
+        return encoding::Reading::Refused(lts::Refusal::Label);
     }
     if !states_fit(s, h) {
         return encoding::Reading::Refused(lts::Refusal::StateRecord);

@@ -1,34 +1,33 @@
 -- Compare's turns fit their place.
-use Prim.Native.Nat.{ℕ, _+_, _*_, _-_, _≤_}
+use Prim.Native.Nat.{ℕ, _*_, _-_, _≤_}
 use native.Mathlib.Nat.{mul-le-mul}
 use native.Mathlib.Omega.{arith}
-use mathlib.Core.Path.{_≡_, refl, sym, ap, _∙_}
+use mathlib.Core.Path.{_≡_, sym, ap, _∙_}
 use mathlib.Core.Logic.{⊎-elim}
 use mathlib.Core.List.{List, [], _∷_}
-use Rattle.lts.specs.Union.{disjointUnion, comparison}
 use Rattle.lts.specs.Rule.{Nothing, broken, Reply, given}
 use Rattle.lts.proofs.Rule.{finding, numbered}
 use Rattle.encoding.specs.Denotation.{ltsOf}
-use Rattle.inputs.specs.Both.{bothRules}
+use Rattle.inputs.specs.Both.{joinedLts, bothRules}
 use Rattle.inputs.proofs.Joined.{both-joinable}
-use Rattle.comparison.specs.Call.{ComparePromise}
+use Rattle.comparison.specs.Call.{endRun, ComparePromise}
 
 module _ {first second : List ℕ} {value steps : ℕ} {reply : Reply} (p : ComparePromise first second reply) (is : reply ≡ given (value ∷ steps ∷ [])) where
-  states : broken (bothRules first second) ≡ Nothing → disjointUnion (ltsOf first) (ltsOf second) .states ≤ 256
-  unfolding disjointUnion ltsOf
-  states k = both-joinable first second refl refl k .states
+  states : broken (bothRules first second) ≡ Nothing → joinedLts first second .states ≤ 256
+  unfolding ltsOf
+  states k = let n = p .joined k .states in let s = both-joinable first second k .states in omega (arith, n, s)
 
-  turns : broken (bothRules first second) ≡ Nothing → steps ≡ comparison (ltsOf first) (ltsOf second) .steps
+  turns : broken (bothRules first second) ≡ Nothing → steps ≡ endRun (joinedLts first second) .steps
   turns k = ⊎-elim (λ y. by y) (λ y. by y) (p .answers k)
     where
-      by : {v : ℕ} {Q : Type 0} → (reply ≡ given (v ∷ comparison (ltsOf first) (ltsOf second) .steps ∷ [])) × Q
-          → steps ≡ comparison (ltsOf first) (ltsOf second) .steps
-      by {v} y = let e : _≡_ {A = List ℕ} (value ∷ steps ∷ []) (v ∷ comparison (ltsOf first) (ltsOf second) .steps ∷ []) = ap (λ (x : Reply). x .values) (sym is ∙ y .0) in cc
+      by : {v : ℕ} {Q : Type 0} → (reply ≡ given (v ∷ endRun (joinedLts first second) .steps ∷ [])) × Q
+          → steps ≡ endRun (joinedLts first second) .steps
+      by {v} y = let e : _≡_ {A = List ℕ} (value ∷ steps ∷ []) (v ∷ endRun (joinedLts first second) .steps ∷ []) = ap (λ (x : Reply). x .values) (sym is ∙ y .0) in cc
 
   pub turns-few : steps ≤ 65280
   turns-few = ⊎-elim
       (λ k.
-      let N = disjointUnion (ltsOf first) (ltsOf second) .states in
+      let N = joinedLts first second .states in
       let f : N ≤ 256 = states k in
       let g : N - 1 ≤ 255 = omega arith in
       let m : N * (N - 1) ≤ 256 * 255 = mul-le-mul f g in

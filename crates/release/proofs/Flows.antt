@@ -11,7 +11,8 @@ use Rattle.lts.specs.Rounds.{round, refutedAt, refutationRound}
 use Rattle.lts.specs.Strategy.{holds, sound, allSound, accepted, lastOf, entriesOf, entryNumbers, unanswered, entryAt, entriesIn, entriesBefore, strategyAt, strategy, refutedCount, strategyLength}
 use Rattle.lts.specs.Game.{defenderLoses, challengerWins}
 use Rattle.lts.specs.Rule.{broken, checked, given, refused}
-use Rattle.encoding.specs.Records.{numberAt, headerOf, stateRecordAt, transitionRecordAt, stateRecord, transitionRecord}
+use Rattle.encoding.specs.Records.{numberAt, headerOf, labelsLength, stateRecordAt, transitionRecordAt, stateRecord, transitionRecord}
+use Rattle.encoding.specs.Labels.{labelsFit}
 use Rattle.encoding.specs.Encoding.{inRange, stateFits, transitionFits, statesFit, transitionsFit, walk, chain, reached, member, onSomeChain, allReached, indices, occurrences, namedTwice, noneTwice, distinct, successor, successorsFit, headedRules, sheetRules}
 use Rattle.encoding.specs.Denotation.{any, ltsOf}
 use Rattle.encoding.proofs.Sheets.{F1, F2, F3, F4, F7, F8, F9}
@@ -20,7 +21,7 @@ use Rattle.relation.specs.Matrix.{inMatrix, matrixOf}
 use Rattle.relation.specs.Check.{isMatrix, reflexiveBelow, transitiveBelow, transitiveAt, transitivePair, startRules}
 use Rattle.inputs.specs.Inputs.{inputRules, pairRules}
 use Rattle.simulation.specs.Calls.{terminationRules, terminationCall}
-use Rattle.coarsest.specs.Call.{CoarsestOutcome, coarsestRules, refined, coarsestCall}
+use Rattle.coarsest.specs.Call.{coarsestRules, refined, coarsestCall}
 use Rattle.strategy.specs.Check.{checkRules, checkCall}
 use Rattle.strategy.specs.Write.{writeRules, writeCall}
 use Rattle.game.specs.Play.{playRules, playCall}
@@ -72,5 +73,5 @@ flows :
     × (coarsestCall F7 all [] three three ≡ record { reply = refused Range; grid = three; representatives = three })
     × (coarsestCall F8 all [] three three ≡ record { reply = refused Length; grid = three; representatives = three })
     × (coarsestCall F9 all [] three three ≡ record { reply = refused (ReachedTwice 1); grid = three; representatives = three })
-unfolding numberAt headerOf stateRecordAt transitionRecordAt stateRecord transitionRecord inRange stateFits transitionFits anyBelow allBelow sumBelow countBelow passing concatBelow listBelow lowest restrict statesFit transitionsFit walk chain reached member onSomeChain allReached indices occurrences namedTwice noneTwice distinct successor successorsFit headedRules sheetRules broken checked any ltsOf isMatrix reflexiveBelow transitiveBelow transitiveAt transitivePair startRules inputRules pairRules bit wordOf wordAt inMatrix matrixOf allStates anyState allActions anyAction into terminationPreorder answered run step stepOf eachAction chosen pending isRepresentative representative representatives block coarsest initial pairCount blockCount refine split prune remove xor round refutedAt refutationRound holds sound allSound accepted lastOf entriesOf entryNumbers unanswered entryAt entriesIn entriesBefore strategyAt strategy refutedCount strategyLength defenderLoses challengerWins terminationRules terminationCall coarsestRules refined coarsestCall checkRules checkCall writeRules writeCall playRules playCall
+unfolding numberAt headerOf labelsLength labelsFit stateRecordAt transitionRecordAt stateRecord transitionRecord inRange stateFits transitionFits anyBelow allBelow sumBelow countBelow passing concatBelow listBelow lowest restrict statesFit transitionsFit walk chain reached member onSomeChain allReached indices occurrences namedTwice noneTwice distinct successor successorsFit headedRules sheetRules broken checked any ltsOf isMatrix reflexiveBelow transitiveBelow transitiveAt transitivePair startRules inputRules pairRules bit wordOf wordAt inMatrix matrixOf allStates anyState allActions anyAction into terminationPreorder answered run step stepOf eachAction chosen pending isRepresentative representative representatives block coarsest initial pairCount blockCount refine split prune remove xor round refutedAt refutationRound holds sound allSound accepted lastOf entriesOf entryNumbers unanswered entryAt entriesIn entriesBefore strategyAt strategy refutedCount strategyLength defenderLoses challengerWins terminationRules terminationCall coarsestRules refined coarsestCall checkRules checkCall writeRules writeCall playRules playCall
 flows = (refl, refl, refl, refl, refl, refl, refl, refl, refl, refl, refl, refl, refl, refl, refl)

@@ -6,3 +6,4 @@ pub mod Plans
 pub mod EndStarts
 pub mod Exports
 pub mod Flows
+pub mod Twins

@@ -1,9 +1,9 @@
 -- Laws of decimal numbers, and of text in a buffer.
-use Prim.Native.Nat.{ℕ, zero, suc, _+_, _-_, _*_, _/_, _%_, _^_, _<_, _≤_}
+use Prim.Native.Nat.{ℕ, zero, suc, _+_, _-_, _*_, _/_, _%_, _^_, _<_, _≤_, suc-le-suc}
 use mathlib.Core.Path.{_≡_, refl, _∙_}
-use mathlib.Core.Bool.{Bool, true, false}
+use mathlib.Core.Bool.{Bool, true, false, cond}
 use mathlib.Core.List.{List, [], _∷_, _++_, append-assoc, append-nil}
-use native.Mathlib.Nat.{pow-suc, add-zero}
+use native.Mathlib.Nat.{pow-suc, add-zero, zero-lt-suc, not-suc-le-zero, le-of-suc-le-suc}
 use native.Mathlib.Numerals.{add-one}
 use native.Mathlib.Omega.{arith}
 use borrow.Author.Tests.{lt-ltb, le-ltb, ltb-true, ltb-false}
@@ -65,10 +65,37 @@ pub decimal-shown : (x : ℕ) → shown 0 (decimal x) ≡ x
 unfolding decimal
 decimal-shown x = shown-in (suc x) x (omega arith)
 
--- no leading zero
-decimal-some : (x : ℕ) → 0 < length (decimal x)
+-- some digits, each a byte from 48 to 57
+pub decimal-some : (x : ℕ) → 0 < length (decimal x)
 decimal-some x = one-or-more x (λ l. rw (decimal-one x l) (omega arith)) (λ l. rw (decimal-more x l, length-append) (omega arith))
 
+abbrev Digit : ℕ → Type 0
+Digit d = (48 ≤ d) × (d ≤ 57)
+
+last-digit : (ds : List ℕ) (d : ℕ) → ((i : ℕ) → i < length ds → Digit (getD ds i 0)) → Digit d
+    → (i : ℕ) → i < length (ds ++ (d ∷ [])) → Digit (getD (ds ++ (d ∷ [])) i 0)
+last-digit [] d f e zero l = e
+last-digit [] d f e (suc i) l = absurd (omega arith)
+last-digit (x ∷ ds) d f e zero l = f 0 (zero-lt-suc (length ds))
+last-digit (x ∷ ds) d f e (suc i) l = last-digit ds d (λ j m. f (suc j) (suc-le-suc m)) e i (le-of-suc-le-suc l)
+
+digit-in : (k x i : ℕ) → i < length (decimalIn k x) → Digit (getD (decimalIn k x) i 0)
+unfolding decimalIn
+digit-in zero x i l = absurd (not-suc-le-zero l)
+digit-in (suc k) x i l =
+    last-digit (cond (ltb x 10) [] (decimalIn k (x / 10))) (48 + x % 10)
+    (front (ltb x 10) (decimalIn k (x / 10)) (digit-in k (x / 10))) (omega arith, omega arith) i l
+  where
+    front : (b : Bool) (ds : List ℕ) → ((i : ℕ) → i < length ds → Digit (getD ds i 0))
+        → (i : ℕ) → i < length (cond b [] ds) → Digit (getD (cond b [] ds) i 0)
+    front true ds f i l = absurd (not-suc-le-zero l)
+    front false ds f i l = f i l
+
+pub decimal-digit : (x i : ℕ) → i < length (decimal x) → (48 ≤ getD (decimal x) i 0) × (getD (decimal x) i 0 ≤ 57)
+unfolding decimal
+decimal-digit x i l = digit-in (suc x) x i l
+
+-- no leading zero
 leads : (k x : ℕ) → x < k → 0 < x → 48 < getD (decimal x) 0 0
 leads zero x h g = absurd (omega arith)
 leads (suc k) x h g =

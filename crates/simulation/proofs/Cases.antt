@@ -11,7 +11,8 @@ use Rattle.lts.specs.System.{allStates, anyState, allActions, into, within, ans
 use Rattle.lts.specs.Rule.{broken, checked, Reply, given, refused}
 use Rattle.lts.specs.declared.Refusal.the-variants.{Length, Grid, NotReflexive, NotTransitive, Buffer}
 use Rattle.encoding.proofs.Sheets.{F3}
-use Rattle.encoding.specs.Records.{numberAt, headerOf, stateRecordAt, transitionRecordAt, stateRecord, transitionRecord}
+use Rattle.encoding.specs.Records.{numberAt, headerOf, labelsLength, stateRecordAt, transitionRecordAt, stateRecord, transitionRecord}
+use Rattle.encoding.specs.Labels.{labelsFit}
 use Rattle.encoding.specs.Encoding.{inRange, stateFits, transitionFits, statesFit, transitionsFit, walk, chain, reached, member, onSomeChain, allReached, indices, occurrences, namedTwice, noneTwice, distinct, successor, successorsFit, headedRules, sheetRules}
 use Rattle.encoding.specs.Denotation.{any, ltsOf}
 use Rattle.rows.specs.Rows.{bit, wordOf, wordAt}
@@ -43,28 +44,28 @@ two = 4 ∷ 4 ∷ 0 ∷ []
 -- all pairs where no page has the end mark; with it on page 1 that page is related to itself alone
 written : (terminationCall F3 blank ≡ record { reply = given []; grid = all })
     × (terminationCall F3-marked blank ≡ record { reply = given []; grid = 7 ∷ 2 ∷ 7 ∷ [] })
-unfolding numberAt headerOf stateRecordAt transitionRecordAt stateRecord transitionRecord inRange stateFits transitionFits allBelow statesFit transitionsFit walk chain concatBelow reached member lowest onSomeChain allReached indices occurrences namedTwice noneTwice distinct successor successorsFit headedRules sheetRules broken checked ltsOf wordOf wordAt matrixOf listBelow terminationPreorder terminationRules terminationCall
+unfolding numberAt headerOf labelsLength labelsFit stateRecordAt transitionRecordAt stateRecord transitionRecord inRange stateFits transitionFits allBelow statesFit transitionsFit walk chain concatBelow reached member lowest onSomeChain allReached indices occurrences namedTwice noneTwice distinct successor successorsFit headedRules sheetRules broken checked ltsOf wordOf wordAt matrixOf listBelow terminationPreorder terminationRules terminationCall
 written = (refl, refl)
 
 -- too few bytes come before a buffer that is too short; the buffer stays
 unwritten : (terminationCall [] (9 ∷ []) ≡ record { reply = refused Length; grid = 9 ∷ [] })
     × (terminationCall F3 (9 ∷ []) ≡ record { reply = refused Buffer; grid = 9 ∷ [] })
-unfolding numberAt headerOf stateRecordAt transitionRecordAt stateRecord transitionRecord inRange stateFits transitionFits allBelow statesFit transitionsFit walk chain concatBelow reached member listBelow lowest onSomeChain allReached indices occurrences namedTwice noneTwice distinct successor successorsFit headedRules sheetRules broken checked terminationRules terminationCall
+unfolding numberAt headerOf labelsLength labelsFit stateRecordAt transitionRecordAt stateRecord transitionRecord inRange stateFits transitionFits allBelow statesFit transitionsFit walk chain concatBelow reached member listBelow lowest onSomeChain allReached indices occurrences namedTwice noneTwice distinct successor successorsFit headedRules sheetRules broken checked terminationRules terminationCall
 unwritten = (refl, refl)
 
 -- the promise refuses a buffer without pairs, and all pairs where page 1 has the end mark and page 0 has not
 not-blank : (reply : Reply) → TerminationPromise F3 blank reply blank → ⊥
-unfolding numberAt headerOf stateRecordAt transitionRecordAt stateRecord transitionRecord inRange stateFits transitionFits allBelow statesFit transitionsFit walk chain concatBelow reached member listBelow lowest onSomeChain allReached indices occurrences namedTwice noneTwice distinct successor successorsFit headedRules sheetRules broken bit inMatrix terminationRules
+unfolding numberAt headerOf labelsLength labelsFit stateRecordAt transitionRecordAt stateRecord transitionRecord inRange stateFits transitionFits allBelow statesFit transitionsFit walk chain concatBelow reached member listBelow lowest onSomeChain allReached indices occurrences namedTwice noneTwice distinct successor successorsFit headedRules sheetRules broken bit inMatrix terminationRules
 not-blank reply p = p .answers refl .1 .holds 0 0 (omega arith) (omega arith) .1 (λ t. t)
 
 not-all-ends : (reply : Reply) → TerminationPromise F3-marked blank reply all → ⊥
-unfolding numberAt headerOf stateRecordAt transitionRecordAt stateRecord transitionRecord inRange stateFits transitionFits allBelow statesFit transitionsFit walk chain concatBelow reached member listBelow lowest onSomeChain allReached indices occurrences namedTwice noneTwice distinct successor successorsFit headedRules sheetRules broken ltsOf bit inMatrix terminationRules
+unfolding numberAt headerOf labelsLength labelsFit stateRecordAt transitionRecordAt stateRecord transitionRecord inRange stateFits transitionFits allBelow statesFit transitionsFit walk chain concatBelow reached member listBelow lowest onSomeChain allReached indices occurrences namedTwice noneTwice distinct successor successorsFit headedRules sheetRules broken ltsOf bit inMatrix terminationRules
 not-all-ends reply p = p .answers refl .1 .holds 1 0 (omega arith) (omega arith) .0 tt tt
 
 -- ## Test simulation
 -- yes; all pairs are no simulation; and `two` is one, but not inside the diagonal
 tested : (simulationCall F3 all two ≡ given (1 ∷ [])) × (simulationCall F3 all all ≡ given (0 ∷ [])) × (simulationCall F3 diagonal two ≡ given (0 ∷ []))
-unfolding numberAt headerOf stateRecordAt transitionRecordAt stateRecord transitionRecord inRange stateFits transitionFits allBelow statesFit transitionsFit walk chain concatBelow reached member listBelow lowest onSomeChain allReached indices occurrences namedTwice noneTwice distinct successor successorsFit headedRules sheetRules broken checked any ltsOf isMatrix reflexiveBelow transitiveBelow transitiveAt transitivePair startRules inputRules bit inMatrix anyBelow allStates anyState allActions into within answered isSimulation isInside simulationRules simulationCall
+unfolding numberAt headerOf labelsLength labelsFit stateRecordAt transitionRecordAt stateRecord transitionRecord inRange stateFits transitionFits allBelow statesFit transitionsFit walk chain concatBelow reached member listBelow lowest onSomeChain allReached indices occurrences namedTwice noneTwice distinct successor successorsFit headedRules sheetRules broken checked any ltsOf isMatrix reflexiveBelow transitiveBelow transitiveAt transitivePair startRules inputRules bit inMatrix anyBelow allStates anyState allActions into within answered isSimulation isInside simulationRules simulationCall
 tested = (refl, refl, refl)
 
 -- the sheet comes before the start, and the start before the claim, which here has a bit at q = 3; (0, 1), (1, 2) want (0, 2)
@@ -73,7 +74,7 @@ untested : (simulationCall [] blank (8 ∷ 0 ∷ 0 ∷ []) ≡ refused Length)
     × (simulationCall F3 blank (8 ∷ 0 ∷ 0 ∷ []) ≡ refused NotReflexive)
     × (simulationCall F3 (3 ∷ 6 ∷ 4 ∷ []) (8 ∷ 0 ∷ 0 ∷ []) ≡ refused NotTransitive)
     × (simulationCall F3 all (8 ∷ 0 ∷ 0 ∷ []) ≡ refused Grid)
-unfolding numberAt headerOf stateRecordAt transitionRecordAt stateRecord transitionRecord inRange stateFits transitionFits allBelow statesFit transitionsFit walk chain concatBelow reached member listBelow lowest onSomeChain allReached indices occurrences namedTwice noneTwice distinct successor successorsFit headedRules sheetRules broken checked isMatrix reflexiveBelow transitiveBelow transitiveAt transitivePair startRules inputRules bit inMatrix simulationRules simulationCall
+unfolding numberAt headerOf labelsLength labelsFit stateRecordAt transitionRecordAt stateRecord transitionRecord inRange stateFits transitionFits allBelow statesFit transitionsFit walk chain concatBelow reached member listBelow lowest onSomeChain allReached indices occurrences namedTwice noneTwice distinct successor successorsFit headedRules sheetRules broken checked isMatrix reflexiveBelow transitiveBelow transitiveAt transitivePair startRules inputRules bit inMatrix simulationRules simulationCall
 untested = (refl, refl, refl, refl, refl)
 
 first-value : {xs ys : List ℕ} → given xs ≡ given ys → getD xs 0 0 ≡ getD ys 0 0
@@ -81,9 +82,9 @@ first-value e = ap (λ (r : Reply). getD (r .values) 0 0) e
 
 -- the promise refuses a no for `two`, and a yes for all pairs: page 2 moves and page 1 does not
 not-no : SimulationPromise F3 all two (given (0 ∷ [])) → ⊥
-unfolding numberAt headerOf stateRecordAt transitionRecordAt stateRecord transitionRecord inRange stateFits transitionFits allBelow statesFit transitionsFit walk chain concatBelow reached member listBelow lowest onSomeChain allReached indices occurrences namedTwice noneTwice distinct successor successorsFit headedRules sheetRules broken any ltsOf isMatrix reflexiveBelow transitiveBelow transitiveAt transitivePair startRules inputRules bit inMatrix anyBelow allStates anyState allActions into within answered isSimulation isInside simulationRules
+unfolding numberAt headerOf labelsLength labelsFit stateRecordAt transitionRecordAt stateRecord transitionRecord inRange stateFits transitionFits allBelow statesFit transitionsFit walk chain concatBelow reached member listBelow lowest onSomeChain allReached indices occurrences namedTwice noneTwice distinct successor successorsFit headedRules sheetRules broken any ltsOf isMatrix reflexiveBelow transitiveBelow transitiveAt transitivePair startRules inputRules bit inMatrix anyBelow allStates anyState allActions into within answered isSimulation isInside simulationRules
 not-no p = ⊎-elim (λ x. let z = first-value (x .0) in omega arith) (λ x. x .1 (yes-iff F3 all two refl .0 tt)) (p .answers refl)
 
 not-yes : SimulationPromise F3 all all (given (1 ∷ [])) → ⊥
-unfolding numberAt headerOf stateRecordAt transitionRecordAt stateRecord transitionRecord inRange stateFits transitionFits allBelow statesFit transitionsFit walk chain concatBelow reached member listBelow lowest onSomeChain allReached indices occurrences namedTwice noneTwice distinct successor successorsFit headedRules sheetRules broken any ltsOf isMatrix reflexiveBelow transitiveBelow transitiveAt transitivePair startRules inputRules bit inMatrix restrict simulationRules
+unfolding numberAt headerOf labelsLength labelsFit stateRecordAt transitionRecordAt stateRecord transitionRecord inRange stateFits transitionFits allBelow statesFit transitionsFit walk chain concatBelow reached member listBelow lowest onSomeChain allReached indices occurrences namedTwice noneTwice distinct successor successorsFit headedRules sheetRules broken any ltsOf isMatrix reflexiveBelow transitiveBelow transitiveAt transitivePair startRules inputRules bit inMatrix restrict simulationRules
 not-yes p = ⊎-elim (λ x. x .1 .answer {p = 2} {q = 1} 1 2 tt tt .1) (λ x. let z = first-value (x .0) in omega arith) (p .answers refl)

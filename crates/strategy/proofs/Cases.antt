@@ -17,7 +17,8 @@ use Rattle.lts.specs.Rule.{Reply, broken, checked, given, refused}
 use Rattle.lts.specs.declared.Refusal.the-variants.{NotReflexive, NoState, StillRelated, Unsound, Buffer}
 use Rattle.lts.proofs.Rule.{finding, numbered}
 use Rattle.encoding.proofs.Sheets.{F3}
-use Rattle.encoding.specs.Records.{numberAt, headerOf, stateRecordAt, transitionRecordAt, stateRecord, transitionRecord}
+use Rattle.encoding.specs.Records.{numberAt, headerOf, labelsLength, stateRecordAt, transitionRecordAt, stateRecord, transitionRecord}
+use Rattle.encoding.specs.Labels.{labelsFit}
 use Rattle.encoding.specs.Encoding.{inRange, stateFits, transitionFits, statesFit, transitionsFit, walk, chain, reached, member, onSomeChain, allReached, indices, occurrences, namedTwice, noneTwice, distinct, successor, successorsFit, headedRules, sheetRules}
 use Rattle.encoding.specs.Denotation.{any, ltsOf}
 use Rattle.rows.specs.Rows.{bit}
@@ -41,7 +42,7 @@ F5 rest = 0 ∷ 1 ∷ 1 ∷ 1 ∷ 2 ∷ 1 ∷ 1 ∷ 2 ∷ 2 ∷ 0 ∷ 1 ∷ 2 �
 -- ## Write plan: three entries for (2, 0); the numbers behind them stay
 written : (writeCall entryNumbers 4 F3 all 2 0 (blank []) ≡ record { reply = given (3 ∷ []); plan = F5 [] })
     × (writeCall entryNumbers 4 F3 all 2 0 (blank (8 ∷ 7 ∷ [])) ≡ record { reply = given (3 ∷ []); plan = F5 (8 ∷ 7 ∷ []) })
-unfolding numberAt headerOf stateRecordAt transitionRecordAt stateRecord transitionRecord inRange stateFits transitionFits allBelow statesFit transitionsFit walk chain concatBelow reached member listBelow onSomeChain allReached indices occurrences namedTwice noneTwice distinct successor successorsFit headedRules sheetRules broken checked any ltsOf isMatrix reflexiveBelow transitiveBelow transitiveAt transitivePair startRules inputRules pairRules bit inMatrix writeRules writeCall anyBelow sumBelow countBelow lowest restrict allStates anyState allActions into answered round refutedAt refutationRound entryNumbers unanswered entryAt entriesIn entriesBefore strategyAt strategy refutedCount strategyLength
+unfolding numberAt headerOf labelsLength labelsFit stateRecordAt transitionRecordAt stateRecord transitionRecord inRange stateFits transitionFits allBelow statesFit transitionsFit walk chain concatBelow reached member listBelow onSomeChain allReached indices occurrences namedTwice noneTwice distinct successor successorsFit headedRules sheetRules broken checked any ltsOf isMatrix reflexiveBelow transitiveBelow transitiveAt transitivePair startRules inputRules pairRules bit inMatrix writeRules writeCall anyBelow sumBelow countBelow lowest restrict allStates anyState allActions into answered round refutedAt refutationRound entryNumbers unanswered entryAt entriesIn entriesBefore strategyAt strategy refutedCount strategyLength
 written = (refl, refl)
 
 -- 11 for a page that is none, 13 for the kept (0, 2), 15 for a number too few; before them a start that is not reflexive
@@ -49,30 +50,30 @@ write-refusals : (writeCall entryNumbers 4 F3 all 3 0 [] ≡ record { reply = re
     × (writeCall entryNumbers 4 F3 all 0 2 [] ≡ record { reply = refused StillRelated; plan = [] })
     × (writeCall entryNumbers 4 F3 all 2 0 (9 ∷ 9 ∷ 9 ∷ 9 ∷ 9 ∷ 9 ∷ 9 ∷ 9 ∷ 9 ∷ 9 ∷ 9 ∷ []) ≡ record { reply = refused Buffer; plan = 9 ∷ 9 ∷ 9 ∷ 9 ∷ 9 ∷ 9 ∷ 9 ∷ 9 ∷ 9 ∷ 9 ∷ 9 ∷ [] })
     × (writeCall entryNumbers 4 F3 (0 ∷ 0 ∷ 0 ∷ []) 3 0 [] ≡ record { reply = refused NotReflexive; plan = [] })
-unfolding numberAt headerOf stateRecordAt transitionRecordAt stateRecord transitionRecord inRange stateFits transitionFits allBelow statesFit transitionsFit walk chain concatBelow reached member listBelow onSomeChain allReached indices occurrences namedTwice noneTwice distinct successor successorsFit headedRules sheetRules broken checked any ltsOf isMatrix reflexiveBelow transitiveBelow transitiveAt transitivePair startRules inputRules pairRules bit inMatrix writeRules writeCall anyBelow sumBelow countBelow lowest restrict allStates anyState allActions into answered round refutedAt refutationRound refutedCount strategyLength
+unfolding numberAt headerOf labelsLength labelsFit stateRecordAt transitionRecordAt stateRecord transitionRecord inRange stateFits transitionFits allBelow statesFit transitionsFit walk chain concatBelow reached member listBelow onSomeChain allReached indices occurrences namedTwice noneTwice distinct successor successorsFit headedRules sheetRules broken checked any ltsOf isMatrix reflexiveBelow transitiveBelow transitiveAt transitivePair startRules inputRules pairRules bit inMatrix writeRules writeCall anyBelow sumBelow countBelow lowest restrict allStates anyState allActions into answered round refutedAt refutationRound refutedCount strategyLength
 write-refusals = (refl, refl, refl, refl)
 
 -- ## Check plan: the last pair, whatever numbers stand past the last whole entry
 checks : (x y z : ℕ) → (checkCall F3 all (entriesOf (F5 [])) ≡ given (2 ∷ 0 ∷ [])) × (checkCall F3 all (entriesOf (F5 (x ∷ []))) ≡ given (2 ∷ 0 ∷ []))
     × (checkCall F3 all (entriesOf (F5 (x ∷ y ∷ []))) ≡ given (2 ∷ 0 ∷ [])) × (checkCall F3 all (entriesOf (F5 (x ∷ y ∷ z ∷ []))) ≡ given (2 ∷ 0 ∷ []))
-unfolding numberAt headerOf stateRecordAt transitionRecordAt stateRecord transitionRecord inRange stateFits transitionFits allBelow statesFit transitionsFit walk chain concatBelow reached member listBelow lowest onSomeChain allReached indices occurrences namedTwice noneTwice distinct successor successorsFit headedRules sheetRules broken checked any ltsOf isMatrix reflexiveBelow transitiveBelow transitiveAt transitivePair startRules inputRules bit inMatrix checkRules checkCall anyBelow allStates holds sound allSound accepted lastOf entriesOf
+unfolding numberAt headerOf labelsLength labelsFit stateRecordAt transitionRecordAt stateRecord transitionRecord inRange stateFits transitionFits allBelow statesFit transitionsFit walk chain concatBelow reached member listBelow lowest onSomeChain allReached indices occurrences namedTwice noneTwice distinct successor successorsFit headedRules sheetRules broken checked any ltsOf isMatrix reflexiveBelow transitiveBelow transitiveAt transitivePair startRules inputRules bit inMatrix checkRules checkCall anyBelow allStates holds sound allSound accepted lastOf entriesOf
 checks x y z = (refl, refl, refl, refl)
 
 -- 14 for no entry, for too few numbers, for an entry that cites itself (2, 2, 1, 2)
 check-refusals : (checkCall F3 all (entriesOf []) ≡ refused Unsound) × (checkCall F3 all (entriesOf (0 ∷ 1 ∷ 1 ∷ [])) ≡ refused Unsound)
     × (checkCall F3 all (entriesOf (2 ∷ 2 ∷ 1 ∷ 2 ∷ [])) ≡ refused Unsound)
-unfolding numberAt headerOf stateRecordAt transitionRecordAt stateRecord transitionRecord inRange stateFits transitionFits allBelow statesFit transitionsFit walk chain concatBelow reached member listBelow lowest onSomeChain allReached indices occurrences namedTwice noneTwice distinct successor successorsFit headedRules sheetRules broken checked any ltsOf isMatrix reflexiveBelow transitiveBelow transitiveAt transitivePair startRules inputRules bit inMatrix checkRules checkCall anyBelow allStates holds sound allSound accepted lastOf entriesOf
+unfolding numberAt headerOf labelsLength labelsFit stateRecordAt transitionRecordAt stateRecord transitionRecord inRange stateFits transitionFits allBelow statesFit transitionsFit walk chain concatBelow reached member listBelow lowest onSomeChain allReached indices occurrences namedTwice noneTwice distinct successor successorsFit headedRules sheetRules broken checked any ltsOf isMatrix reflexiveBelow transitiveBelow transitiveAt transitivePair startRules inputRules bit inMatrix checkRules checkCall anyBelow allStates holds sound allSound accepted lastOf entriesOf
 check-refusals = (refl, refl, refl)
 
 -- ## What the promises refuse
 -- a check that rejects F5's plan
 not-rejected : CheckPromise F3 all (entriesOf (F5 [])) (refused Unsound) → ⊥
-unfolding numberAt headerOf stateRecordAt transitionRecordAt stateRecord transitionRecord inRange stateFits transitionFits allBelow statesFit transitionsFit walk chain concatBelow reached member listBelow lowest onSomeChain allReached indices occurrences namedTwice noneTwice distinct successor successorsFit headedRules sheetRules broken checked any ltsOf isMatrix reflexiveBelow transitiveBelow transitiveAt transitivePair startRules inputRules bit inMatrix anyBelow allStates holds sound allSound accepted entriesOf
+unfolding numberAt headerOf labelsLength labelsFit stateRecordAt transitionRecordAt stateRecord transitionRecord inRange stateFits transitionFits allBelow statesFit transitionsFit walk chain concatBelow reached member listBelow lowest onSomeChain allReached indices occurrences namedTwice noneTwice distinct successor successorsFit headedRules sheetRules broken checked any ltsOf isMatrix reflexiveBelow transitiveBelow transitiveAt transitivePair startRules inputRules bit inMatrix anyBelow allStates holds sound allSound accepted entriesOf
 not-rejected p = p .unsound refl .0 refl
 
 -- a check that accepts any list whose last pair is the kept (0, 2)
 not-accepted : (entries : List Entry) → CheckPromise F3 all entries (given (0 ∷ 2 ∷ [])) → ⊥
-unfolding numberAt headerOf stateRecordAt transitionRecordAt stateRecord transitionRecord walk chain any ltsOf bit inMatrix anyBelow allBelow countBelow sumBelow passing lowest restrict allStates anyState allActions into run step stepOf eachAction chosen pending isRepresentative representative block coarsest initial refine split prune remove xor
+unfolding numberAt headerOf stateRecordAt transitionRecordAt labelsLength stateRecord transitionRecord walk chain any ltsOf bit inMatrix anyBelow allBelow countBelow sumBelow passing lowest restrict allStates anyState allActions into run step stepOf eachAction chosen pending isRepresentative representative block coarsest initial refine split prune remove xor
 not-accepted entries p = ⊎-elim (λ e. kept (p .answers e)) (λ e. numbered (e .0) (ap (λ (r : Reply). r .refusal) (p .refuses (e .0) (e .1)))) (finding (checkRules F3 all entries))
   where
     kept : Accepts F3 all entries (given (0 ∷ 2 ∷ [])) → ⊥
@@ -84,17 +85,17 @@ not-accepted entries p = ⊎-elim (λ e. kept (p .answers e)) (λ e. numbered (e
 
 -- a writer that writes nothing, with or without the right count
 not-none : WritePromise entriesOf 4 F3 all 2 0 (blank []) (given (0 ∷ [])) (blank []) → ⊥
-unfolding numberAt headerOf stateRecordAt transitionRecordAt stateRecord transitionRecord inRange stateFits transitionFits allBelow statesFit transitionsFit walk chain concatBelow reached member listBelow onSomeChain allReached indices occurrences namedTwice noneTwice distinct successor successorsFit headedRules sheetRules broken checked any ltsOf isMatrix reflexiveBelow transitiveBelow transitiveAt transitivePair startRules inputRules pairRules bit inMatrix writeRules anyBelow sumBelow countBelow lowest restrict allStates anyState allActions into answered round refutedAt refutationRound refutedCount strategyLength
+unfolding numberAt headerOf labelsLength labelsFit stateRecordAt transitionRecordAt stateRecord transitionRecord inRange stateFits transitionFits allBelow statesFit transitionsFit walk chain concatBelow reached member listBelow onSomeChain allReached indices occurrences namedTwice noneTwice distinct successor successorsFit headedRules sheetRules broken checked any ltsOf isMatrix reflexiveBelow transitiveBelow transitiveAt transitivePair startRules inputRules pairRules bit inMatrix writeRules anyBelow sumBelow countBelow lowest restrict allStates anyState allActions into answered round refutedAt refutationRound refutedCount strategyLength
 not-none p =
     let v = ap (λ (r : Reply). r .values) (p .answers refl .replied) in
     let z : _≡_ {A = ℕ} 0 3 = cc in
     omega arith
 
 not-unwritten : WritePromise entriesOf 4 F3 all 2 0 (blank []) (given (3 ∷ [])) (blank []) → ⊥
-unfolding numberAt headerOf stateRecordAt transitionRecordAt stateRecord transitionRecord inRange stateFits transitionFits allBelow statesFit transitionsFit walk chain concatBelow reached member listBelow onSomeChain allReached indices occurrences namedTwice noneTwice distinct successor successorsFit headedRules sheetRules broken checked any ltsOf isMatrix reflexiveBelow transitiveBelow transitiveAt transitivePair startRules inputRules pairRules bit inMatrix writeRules anyBelow sumBelow countBelow lowest restrict allStates anyState allActions into answered round refutedAt refutationRound refutedCount strategyLength checkRules checkCall holds sound allSound accepted lastOf entriesOf
+unfolding numberAt headerOf labelsLength labelsFit stateRecordAt transitionRecordAt stateRecord transitionRecord inRange stateFits transitionFits allBelow statesFit transitionsFit walk chain concatBelow reached member listBelow onSomeChain allReached indices occurrences namedTwice noneTwice distinct successor successorsFit headedRules sheetRules broken checked any ltsOf isMatrix reflexiveBelow transitiveBelow transitiveAt transitivePair startRules inputRules pairRules bit inMatrix writeRules anyBelow sumBelow countBelow lowest restrict allStates anyState allActions into answered round refutedAt refutationRound refutedCount strategyLength checkRules checkCall holds sound allSound accepted lastOf entriesOf
 not-unwritten p = let z : _≡_ {A = ℕ} 14 0 = ap (λ (r : Reply). r .refusal) (p .answers refl .accepted) in omega arith
 
 -- 13 for the dropped (2, 0), with whatever buffer
 not-kept : (plan₀ plan : List ℕ) → WritePromise entriesOf 4 F3 all 2 0 plan₀ (refused StillRelated) plan → ⊥
-unfolding numberAt headerOf stateRecordAt transitionRecordAt stateRecord transitionRecord inRange stateFits transitionFits allBelow statesFit transitionsFit walk chain concatBelow reached member listBelow onSomeChain allReached indices occurrences namedTwice noneTwice distinct successor successorsFit headedRules sheetRules broken checked any ltsOf isMatrix reflexiveBelow transitiveBelow transitiveAt transitivePair startRules inputRules pairRules bit inMatrix anyBelow sumBelow countBelow passing lowest restrict allStates anyState allActions into run step stepOf eachAction chosen pending isRepresentative representative block coarsest initial refine split prune remove xor
+unfolding numberAt headerOf labelsLength labelsFit stateRecordAt transitionRecordAt stateRecord transitionRecord inRange stateFits transitionFits allBelow statesFit transitionsFit walk chain concatBelow reached member listBelow onSomeChain allReached indices occurrences namedTwice noneTwice distinct successor successorsFit headedRules sheetRules broken checked any ltsOf isMatrix reflexiveBelow transitiveBelow transitiveAt transitivePair startRules inputRules pairRules bit inMatrix anyBelow sumBelow countBelow passing lowest restrict allStates anyState allActions into run step stepOf eachAction chosen pending isRepresentative representative block coarsest initial refine split prune remove xor
 not-kept plan₀ plan p = p .related refl [] .0 refl

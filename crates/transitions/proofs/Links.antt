@@ -1,10 +1,10 @@
 -- Maps, and the links between the states that go to one state. Assumes nothing.
-use Prim.Native.Nat.{ℕ, zero, suc, _+_, _≤_, _<_}
+use Prim.Native.Nat.{ℕ, _+_, _≤_, _<_}
 use mathlib.Core.Path.{_≡_, refl, sym, ap, _∙_, subst}
 use mathlib.Core.Bool.{Bool, true, false, _&&_, _||_, and-false}
 use mathlib.Core.List.{List}
 use native.Mathlib.Omega.{arith}
-use native.Mathlib.Nat.{le-refl, not-suc-le-zero}
+use native.Mathlib.Nat.{le-refl, not-suc-le-zero, zero-add}
 use native.Mathlib.Decide.{ℕ-discrete}
 use lib.Dec.{eqb, ltb}
 use lib.ListN.{length, getD, set, replicate, length-set, length-replicate, getD-replicate}
@@ -16,13 +16,22 @@ use Rattle.lts.proofs.Below.{and-fst, and-snd, any-cong, any-shorter, any-more,
 use Rattle.rows.specs.Rows.{Next}
 use Rattle.transitions.specs.Maps.{stateTo, actionTo, Raises, goesTo, firstTo, nextTo, Linked}
 
--- ---- maps that raise states and keep actions
+-- ---- maps of actions, and maps that raise states
 
-pub raises-start : {shift : ℕ} {maps : List ℕ} → length maps ≡ 321 → Raises 0 0 shift maps
+-- action a + 1 is as it is, too
+pub keeps-action : (to : List ℕ) (a : ℕ) → a < 64 → length to ≡ 65 → ((b : ℕ) → 1 ≤ b → b ≤ a → getD to b 0 ≡ b)
+    → (b : ℕ) → 1 ≤ b → b ≤ a + 1 → getD (set to (a + 1) (a + 1)) b 0 ≡ b
+keeps-action to a low long kept b l k = go (ℕ-discrete b (a + 1))
+  where
+    go : Dec (b ≡ a + 1) → getD (set to (a + 1) (a + 1)) b 0 ≡ b
+    go (yes e) = rw e (getD-set-same to (a + 1) (a + 1) 0 (omega (arith, low, long)))
+    go (no e) = getD-set-other to (a + 1) b (a + 1) 0 e ∙ kept b l (omega (arith, k, e))
+
+pub raises-start : {shift : ℕ} {to maps : List ℕ} → length maps ≡ 321 → Raises 0 0 shift to maps
 raises-start e = record { long = e; state = λ p l. absurd (not-suc-le-zero l); action = λ a l k. absurd (omega (arith, l, k)) }
 
-pub raises-state : {shift : ℕ} {maps : List ℕ} (p : ℕ) → p < 256 → Raises p 0 shift maps → Raises (p + 1) 0 shift (set maps p (shift + p))
-raises-state {shift} {maps} p low r = record {
+pub raises-state : {shift : ℕ} {to maps : List ℕ} (p : ℕ) → p < 256 → Raises p 0 shift to maps → Raises (p + 1) 0 shift to (set maps p (shift + p))
+raises-state {shift} {to} {maps} p low r = record {
   long = length-set maps p (shift + p) ∙ r .long;
   state = λ q l. go q (omega (arith, l)) (ℕ-discrete q p);
   action = λ a l k. absurd (omega (arith, l, k));
@@ -32,16 +41,31 @@ raises-state {shift} {maps} p low r = record {
     go q l (yes e) = rw e (getD-set-same maps p (shift + p) 0 (omega (arith, low, r .long)))
     go q l (no e) = getD-set-other maps p q (shift + p) 0 e ∙ r .state q (omega (arith, l, e))
 
-pub raises-action : {n shift : ℕ} {maps : List ℕ} (a : ℕ) → a < 64 → n ≤ 256 → Raises n a shift maps → Raises n (a + 1) shift (set maps (256 + (a + 1)) (a + 1))
-raises-action {n} {shift} {maps} a low few r = record {
-  long = length-set maps (256 + (a + 1)) (a + 1) ∙ r .long;
-  state = λ q l. getD-set-other maps (256 + (a + 1)) q (a + 1) 0 (λ e. omega (arith, e, l, few)) ∙ r .state q l;
+pub raises-action : {n shift : ℕ} {to maps : List ℕ} (a : ℕ) → a < 64 → n ≤ 256 → Raises n a shift to maps
+    → Raises n (a + 1) shift to (set maps (256 + (a + 1)) (getD to (a + 1) 0))
+raises-action {n} {shift} {to} {maps} a low few r = record {
+  long = length-set maps at new ∙ r .long;
+  state = λ q l. getD-set-other maps at q new 0 (λ e. omega (arith, e, l, few)) ∙ r .state q l;
   action = λ b l k. go b l (omega (arith, k)) (ℕ-discrete b (a + 1));
 }
   where
-    go : (b : ℕ) → 1 ≤ b → b ≤ a + 1 → Dec (b ≡ a + 1) → actionTo (set maps (256 + (a + 1)) (a + 1)) b ≡ b
-    go b l k (yes e) = rw e (getD-set-same maps (256 + (a + 1)) (a + 1) 0 (omega (arith, low, r .long)))
-    go b l k (no e) = getD-set-other maps (256 + (a + 1)) (256 + b) (a + 1) 0 (λ f. e (omega (arith, f))) ∙ r .action b l (omega (arith, k, e))
+    at : ℕ
+    at = 256 + (a + 1)
+
+    new : ℕ
+    new = getD to (a + 1) 0
+
+    go : (b : ℕ) → 1 ≤ b → b ≤ a + 1 → Dec (b ≡ a + 1) → actionTo (set maps at new) b ≡ getD to b 0
+    go b l k (yes e) = rw e (getD-set-same maps at new 0 (omega (arith, low, r .long)))
+    go b l k (no e) = getD-set-other maps at (256 + b) new 0 (λ f. e (omega (arith, f))) ∙ r .action b l (omega (arith, k, e))
+
+-- n states and the actions 1 to m are as they are
+pub record Keeps (n m : ℕ) (maps : List ℕ) : Type 0 where
+  pub state : (p : ℕ) → p < n → stateTo maps p ≡ p
+  pub action : (a : ℕ) → 1 ≤ a → a ≤ m → actionTo maps a ≡ a
+
+pub raises-keeps : {n m : ℕ} {to maps : List ℕ} → Raises n m 0 to maps → ((a : ℕ) → 1 ≤ a → a ≤ m → getD to a 0 ≡ a) → Keeps n m maps
+raises-keeps r same = record { state = λ p l. r .state p l ∙ zero-add p; action = λ a l k. r .action a l k ∙ same a l k }
 
 -- ---- the states that go to one state
 

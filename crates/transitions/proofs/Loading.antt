@@ -1,20 +1,19 @@
 -- Sheets in a table, state by state: one sheet under maps, one as it is, and two side by side. Assumes nothing.
-use Prim.Native.Nat.{ℕ, zero, suc, _+_, _-_, _*_, _≤_, _<_, max}
+use Prim.Native.Nat.{ℕ, suc, _+_, _*_, _≤_, _<_}
 use mathlib.Core.Path.{_≡_, refl, sym, ap, _∙_, subst}
 use mathlib.Core.Bool.{Bool, true, false, cond}
 use mathlib.Core.List.{List}
 use mathlib.Core.Logic.{⊎-elim}
 use native.Mathlib.Omega.{arith}
-use native.Mathlib.Nat.{zero-add}
-use lib.Dec.{T}
-use lib.ListN.{length, replicate}
+use lib.ListN.{length, getD, replicate}
 use Rattle.lts.specs.Bounded.{passing, concatBelow}
 use Rattle.lts.specs.System.{Lts, WellFormed}
 use Rattle.lts.specs.Transitions.{transitionsTo, transitionsBy, transitionsOf, transitionsBelow, transitions}
 use Rattle.lts.specs.Union.{disjointUnion}
 use Rattle.lts.specs.Mapped.{mapped, Sends}
 use Rattle.lts.proofs.Union.{union-formed, union-count, union-ends}
-use Rattle.lts.proofs.Mapped.{mapped-formed, mapped-ends, mapped-count, mapped-self, union-first-row, union-first-terminating, union-second-row, union-second-terminating}
+use Rattle.lts.proofs.Mapped.{mapped-formed, mapped-ends, mapped-count, mapped-self, mapped-cong, mapped-composed}
+use Rattle.lts.proofs.Mapped.{union-first-row, union-first-terminating, union-second-row, union-second-terminating}
 use Rattle.lts.proofs.Count.{passing-shorter}
 use Rattle.lts.proofs.Below.{either, true-T}
 use Rattle.lts.proofs.Lists.{passing-same, concat-same}
@@ -30,6 +29,7 @@ use Rattle.transitions.specs.Table.{offsetAt, Holds}
 use Rattle.transitions.specs.Maps.{stateTo, actionTo, Raises, Within}
 use Rattle.transitions.specs.Filling.{actionSet, rowTransitions, withState, withCounts, Extends, Filling}
 use Rattle.transitions.specs.Loading.{rowImage, markImage, Image, Images, Loading}
+use Rattle.transitions.proofs.Links.{Keeps}
 use Rattle.transitions.proofs.Filling.{filling-start, filling-room, filling-more, state-offset}
 use Rattle.transitions.proofs.Filled.{filled}
 use Rattle.transitions.proofs.Images.{row-is, mark-is}
@@ -139,9 +139,9 @@ module _ (s : List ℕ) (h : Header) (g : ReadableAs s h) where
 
   -- ---- as it is
 
-  module _ (maps : List ℕ) (r : Raises (h .states) (h .actions) 0 maps) where
+  module _ (maps : List ℕ) (r : Keeps (h .states) (h .actions) maps) where
     same-state : (p : ℕ) → p < ltsOf s .states → stateTo maps p ≡ p
-    same-state p l = r .state p (omega (arith, l, lts-states s h (g .header))) ∙ zero-add p
+    same-state p l = r .state p (omega (arith, l, lts-states s h (g .header)))
 
     same-action : (a : ℕ) → 1 ≤ a → a ≤ ltsOf s .actions → actionTo maps a ≡ a
     same-action a l k = r .action a l (omega (arith, k, lts-actions s h (g .header)))
@@ -160,68 +160,98 @@ module _ (s : List ℕ) (h : Header) (g : ReadableAs s h) where
 
 -- ---- two sheets
 
-module _ (s u : List ℕ) (h g : Header) (first : ReadableAs s h) (second : ReadableAs u g) (room : h .states + g .states ≤ 256) (space : h .transitions + g .transitions ≤ 1024) where
+-- both go into one table with m actions, the second's actions where `to` says
+pub record Both (s u : List ℕ) (h g : Header) (to : List ℕ) (m : ℕ) : Type 0 where
+  pub first : ReadableAs s h
+  pub second : ReadableAs u g
+  pub room : h .states + g .states ≤ 256
+  pub space : h .transitions + g .transitions ≤ 1024
+  pub own : h .actions ≤ m
+  pub labels : m ≤ 64
+  pub sent : (b : ℕ) → 1 ≤ b → b ≤ g .actions → (1 ≤ getD to b 0) × (getD to b 0 ≤ m)
+
+module _ {s u : List ℕ} {h g : Header} {to : List ℕ} {m : ℕ} (b : Both s u h g to m) where
+  -- the second's system by the actions of both, and the joined one
+  abbrev W : Lts
+  W = mapped (g .states) m (λ p. p) (λ a. getD to a 0) (ltsOf u)
+
   abbrev U : Lts
-  U = disjointUnion (ltsOf s) (ltsOf u)
+  U = disjointUnion (ltsOf s) W
+
+  named-sends : Sends (g .states) m (λ p. p) (λ a. getD to a 0) (ltsOf u)
+  named-sends = record {
+    state = λ p l. omega (arith, l, lts-states u g (b .second .header));
+    action = λ a l k. b .sent a l (omega (arith, k, lts-actions u g (b .second .header)));
+  }
+
+  named-formed : WellFormed W
+  named-formed = mapped-formed (well-formed u g (b .second)) named-sends
 
   union-states : U .states ≡ h .states + g .states
-  unfolding disjointUnion
-  union-states = rw (lts-states s h (first .header), lts-states u g (second .header))
+  unfolding disjointUnion mapped
+  union-states = rw (lts-states s h (b .first .header))
 
-  union-actions : U .actions ≡ max (h .actions) (g .actions)
-  unfolding disjointUnion
-  union-actions = rw (lts-actions s h (first .header), lts-actions u g (second .header))
+  union-actions : U .actions ≡ m
+  unfolding disjointUnion mapped
+  union-actions = omega (arith, lts-actions s h (b .first .header), b .own)
 
-  union-size : length (transitionsBelow U (U .states)) ≡ h .transitions + g .transitions
+  union-size : length (transitionsBelow U (U .states)) ≤ h .transitions + g .transitions
   unfolding transitions
   union-size =
-      let c = union-count (well-formed s h first) (well-formed u g second) in
-      omega (arith, c, sheet-size s h first, sheet-size u g second)
+      let c = union-count (well-formed s h (b .first)) named-formed in
+      let d = mapped-count (g .states) m (λ p. p) (λ a. getD to a 0) (ltsOf u) (well-formed u g (b .second)) in
+      omega (arith, c, d, sheet-size s h (b .first), sheet-size u g (b .second))
 
   -- the first sheet's states are as they are
-  module _ {own : List ℕ} (r : Raises (h .states) (h .actions) 0 own) where
-    pub both-start : {m : ℕ} → m ≡ max (h .actions) (g .actions) → Loading U s h own m 0 (replicate 3588 0)
-    both-start e =
-        let b = first .recorded .sized .bounds in
-        let c = second .recorded .sized .bounds in
-        let o = same-sends s h first own r in
+  module _ {own : List ℕ} (r : Keeps (h .states) (h .actions) own) where
+    pub both-start : Loading U s h own m 0 (replicate 3588 0)
+    both-start =
+        let o = same-sends s h (b .first) own r in
         record {
-          readable = first;
+          readable = b .first;
           sends = record {
             state = λ p l. let k = o .state p l in omega (arith, k, union-states);
-            action = λ a l k. let z = o .action a l k in (z .0, let y = z .1 in omega (arith, y, union-actions));
+            action = λ a l k. let z = o .action a l k in (z .0, let y = z .1 in omega (arith, y, b .own, union-actions));
           };
-          few = omega (arith, union-states, room);
-          labels = omega (arith, e, b .actions, c .actions);
-          last = e ∙ sym union-actions;
-          size = omega (arith, union-size, space);
+          few = omega (arith, union-states, b .room);
+          labels = b .labels;
+          last = sym union-actions;
+          size = omega (arith, union-size, b .space);
           filling = zero-filling U;
         }
 
     pub first-images : Images U s own 0 (h .states)
     first-images i l k =
-        let low : i < ltsOf s .states = omega (arith, k, lts-states s h (first .header)) in
+        let low : i < ltsOf s .states = omega (arith, k, lts-states s h (b .first .header)) in
         record {
           below = omega (arith, k, union-states);
-          mark = union-first-terminating (U .states) (U .actions) (stateTo own) (actionTo own) (ltsOf s) (ltsOf u) (same-state s h first own r) i low;
-          step = λ a j. union-first-row (U .states) (U .actions) (stateTo own) (actionTo own) (ltsOf s) (ltsOf u) (well-formed s h first)
-              (same-state s h first own r) (same-action s h first own r) i a j low;
+          mark = union-first-terminating (U .states) (U .actions) (stateTo own) (actionTo own) (ltsOf s) W (same-state s h (b .first) own r) i low;
+          step = λ a j. union-first-row (U .states) (U .actions) (stateTo own) (actionTo own) (ltsOf s) W (well-formed s h (b .first))
+              (same-state s h (b .first) own r) (same-action s h (b .first) own r) i a j low;
         }
 
-  -- the second's are raised behind them
-  module _ {behind : List ℕ} (r : Raises (g .states) (g .actions) (h .states) behind) where
+  -- the second's are raised behind them, and its actions go where `to` says
+  module _ {behind : List ℕ} (r : Raises (g .states) (g .actions) (h .states) to behind) where
     raised-state : (p : ℕ) → p < ltsOf u .states → stateTo behind p ≡ ltsOf s .states + p
-    raised-state p l = r .state p (omega (arith, l, lts-states u g (second .header))) ∙ ap (λ (n : ℕ). n + p) (sym (lts-states s h (first .header)))
+    raised-state p l = r .state p (omega (arith, l, lts-states u g (b .second .header))) ∙ ap (λ (n : ℕ). n + p) (sym (lts-states s h (b .first .header)))
 
-    raised-action : (a : ℕ) → 1 ≤ a → a ≤ ltsOf u .actions → actionTo behind a ≡ a
-    raised-action a l k = r .action a l (omega (arith, k, lts-actions u g (second .header)))
+    raised-action : (a : ℕ) → 1 ≤ a → a ≤ ltsOf u .actions → actionTo behind a ≡ getD to a 0
+    raised-action a l k = r .action a l (omega (arith, k, lts-actions u g (b .second .header)))
 
-    pub both-middle : {own : List ℕ} {m : ℕ} {t : List ℕ} → Loading U s h own m (h .states) t → Loading U u g behind m (h .states) t
+    -- what is behind the first's states is the second under the maps
+    raised-system : mapped (U .states) (U .actions) (λ p. ltsOf s .states + p) (λ a. a) W
+        ≡ mapped (U .states) (U .actions) (stateTo behind) (actionTo behind) (ltsOf u)
+    raised-system =
+        mapped-composed (U .states) (U .actions) (λ p. ltsOf s .states + p) (λ a. a) (well-formed u g (b .second)) named-sends
+        ∙ mapped-cong (U .states) (U .actions) _ _ (stateTo behind) (actionTo behind) (ltsOf u)
+        (λ p l. sym (raised-state p l)) (λ a l k. sym (raised-action a l k))
+
+    pub both-middle : {own : List ℕ} {t : List ℕ} → Loading U s h own m (h .states) t → Loading U u g behind m (h .states) t
     both-middle f = record {
-      readable = second;
+      readable = b .second;
       sends = record {
-        state = λ p l. let e = raised-state p l in omega (arith, e, l, union-states, lts-states s h (first .header), lts-states u g (second .header));
-        action = λ a l k. let e = raised-action a l k in (omega (arith, e, l), omega (arith, e, k, union-actions, lts-actions u g (second .header)));
+        state = λ p l. let e = raised-state p l in omega (arith, e, l, union-states, lts-states s h (b .first .header), lts-states u g (b .second .header));
+        action = λ a l k. rw (raised-action a l k, union-actions) (named-sends .action a l k);
       };
       few = f .few;
       labels = f .labels;
@@ -231,21 +261,23 @@ module _ (s u : List ℕ) (h g : Header) (first : ReadableAs s h) (second : Read
     }
 
     pub second-images : Images U u behind (h .states) (h .states + g .states)
+    unfolding mapped
     second-images i l k =
-        let low : ltsOf s .states ≤ i = omega (arith, l, lts-states s h (first .header)) in
-        let high : i < ltsOf s .states + ltsOf u .states = omega (arith, k, lts-states s h (first .header), lts-states u g (second .header)) in
+        let low : ltsOf s .states ≤ i = omega (arith, l, lts-states s h (b .first .header)) in
+        let high : i < ltsOf s .states + g .states = omega (arith, k, lts-states s h (b .first .header)) in
         record {
           below = omega (arith, k, union-states);
-          mark = union-second-terminating (U .states) (U .actions) (stateTo behind) (actionTo behind) (ltsOf s) (ltsOf u) raised-state i low high;
-          step = λ a j. union-second-row (U .states) (U .actions) (stateTo behind) (actionTo behind) (ltsOf s) (ltsOf u) (well-formed u g second)
-              raised-state raised-action i a j low;
+          mark = union-second-terminating (U .states) (U .actions) (λ p. ltsOf s .states + p) (λ a. a) (ltsOf s) W (λ p h. refl) i low high
+              ∙ ap (λ (L : Lts). L .terminating i) raised-system;
+          step = λ a j. union-second-row (U .states) (U .actions) (λ p. ltsOf s .states + p) (λ a. a) (ltsOf s) W named-formed
+              (λ p h. refl) (λ a h k. refl) i a j low ∙ ap (λ (L : Lts). L .transition i a j) raised-system;
         }
 
-    pub both-filled : {m : ℕ} {t : List ℕ} → Loading U u g behind m (h .states + g .states) t
+    pub both-filled : {t : List ℕ} → Loading U u g behind m (h .states + g .states) t
         → Holds U (withCounts t (h .states + g .states) m (offsetAt t (h .states + g .states)))
-    unfolding disjointUnion
+    unfolding disjointUnion mapped
     both-filled f =
-        let b = first .recorded .sized .bounds in
-        filled (f .filling) (h .states + g .states) _ (union-formed (ltsOf s) (ltsOf u) (well-formed s h first) (well-formed u g second))
-        (union-ends (ltsOf s) (ltsOf u) (lts-ends u g (second .header)))
-        (omega (arith, b .state)) room (f .labels) (loading-most f (omega (arith, union-states))) refl (sym union-states) (f .last)
+        let some = b .first .recorded .sized .bounds .state in
+        filled (f .filling) (h .states + g .states) _ (union-formed (ltsOf s) W (well-formed s h (b .first)) named-formed)
+        (union-ends (ltsOf s) W (mapped-ends named-sends))
+        (omega (arith, some)) (b .room) (f .labels) (loading-most f (omega (arith, union-states))) refl (sym union-states) (f .last)

@@ -15,11 +15,11 @@ stateTo maps p = getD maps p 0
 abbrev pub actionTo : List ℕ → ℕ → ℕ
 actionTo maps a = getD maps (256 + a) 0
 
--- n states go to those from `shift` on, and the actions 1 to m are as they are
-pub record Raises (n m shift : ℕ) (maps : List ℕ) : Type 0 where
+-- n states go to those from `shift` on, and the actions 1 to m go where `to` says
+pub record Raises (n m shift : ℕ) (to maps : List ℕ) : Type 0 where
   pub long : length maps ≡ 321
   pub state : (p : ℕ) → p < n → stateTo maps p ≡ shift + p
-  pub action : (a : ℕ) → 1 ≤ a → a ≤ m → actionTo maps a ≡ a
+  pub action : (a : ℕ) → 1 ≤ a → a ≤ m → actionTo maps a ≡ getD to a 0
 
 -- the states and actions of a sheet with the header h go to states below 256 and to actions up to 64
 pub record Within (h : Header) (maps : List ℕ) : Type 0 where

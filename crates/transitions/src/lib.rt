@@ -2,8 +2,8 @@
 ghost use mathlib.Core.Path.{_≡_};
 ghost use mathlib.Core.Bool.{cond, _||_};
 ghost use mathlib.Core.List.{List};
-ghost use Prim.Native.Nat.{ℕ, _+_, _*_, _<_, _≤_, max};
-ghost use lib.ListN.{length, drop};
+ghost use Prim.Native.Nat.{ℕ, _+_, _*_, _<_, _≤_};
+ghost use lib.ListN.{length, getD, drop};
 ghost use Rattle.lts.specs.Bounded.{passing};
 ghost use Rattle.lts.specs.System.{Lts, into};
 ghost use Rattle.lts.specs.Union.{disjointUnion};
@@ -22,6 +22,9 @@ pub type Table = [u16; 3588];
 
 // Where the states and actions of a sheet go: state p to number p of it, action a to number 256 + a.
 pub type Maps = [u16; 321];
+
+// Where the actions of a sheet go: action a to number a of it.
+pub type ActionMap = [u16; 65];
 
 // The states that go to each state: the first that goes to state i is number i, the next after state p number 256 + p; 256 where there is none.
 type Links = [u16; 512];
@@ -189,7 +192,7 @@ fn action_to(maps: &Maps, a: usize) -> usize
 // Lets n states go to the states from `shift` on.
 fn raise_states(maps: &mut Maps, n: usize, shift: usize)
     requires { ⌜ (length (now maps) ≡ 321) × (shift + n ≤ 256) ⌝ }
-    ensures { λ _. ⌜ Raises n 0 shift (now (maps .exit)) ⌝ }
+    ensures { λ _. ⌜ ((to : List ℕ) → Raises n 0 shift to (now (maps .exit))) ⌝ }
 {
     let mut p = 0;
     while p < n {
@@ -199,25 +202,48 @@ fn raise_states(maps: &mut Maps, n: usize, shift: usize)
 }
 
 // Lets the actions 1 to m be as they are.
-fn keep_actions(maps: &mut Maps, m: usize)
-    requires { ⌜ (length (now maps) ≡ 321) × (m ≤ 64) ⌝ }
-    ensures { λ _. ⌜ ((n shift : ℕ) → n ≤ 256 → Raises n 0 shift (now (maps .entry)) → Raises n m shift (now (maps .exit))) ⌝ }
+pub fn keep_actions(to: &mut ActionMap, m: usize)
+    requires { ⌜ (length (now to) ≡ 65) × (m ≤ 64) ⌝ }
+    ensures { λ _. ⌜ (length (now (to .exit)) ≡ 65) × ((a : ℕ) → 1 ≤ a → a ≤ m → getD (now (to .exit)) a 0 ≡ a) ⌝ }
 {
     let mut a = 0;
     while a < m {
-        maps[256 + (a + 1)] = (a + 1) as u16;
+        to[a + 1] = (a + 1) as u16;
         a += 1;
     }
 }
 
-// The maps by which the states of a sheet go to those from `shift` on, and its actions are as they are.
-fn raised(h: encoding::Header, shift: usize) -> Maps
+// The map under which the actions 1 to m are as they are.
+fn same_actions(m: usize) -> ActionMap
+    requires { ⌜ m ≤ 64 ⌝ }
+    ensures { λ r. ⌜ ((a : ℕ) → 1 ≤ a → a ≤ m → getD r a 0 ≡ a) ⌝ }
+{
+    let mut to = [0u16; 65];
+    keep_actions(&mut to, m);
+    to
+}
+
+// Lets the actions 1 to m go where `to` says.
+fn put_actions(maps: &mut Maps, to: &ActionMap, m: usize)
+    requires { ⌜ (length (now maps) ≡ 321) × (m ≤ 64) ⌝ }
+    ensures { λ _. ⌜ ((n shift : ℕ) → n ≤ 256 → Raises n 0 shift (now (to .entry)) (now (maps .entry))
+        → Raises n m shift (now (to .entry)) (now (maps .exit))) ⌝ }
+{
+    let mut a = 0;
+    while a < m {
+        maps[256 + (a + 1)] = to[a + 1];
+        a += 1;
+    }
+}
+
+// The maps by which the states of a sheet go to those from `shift` on, and its actions where `to` says.
+fn raised(h: encoding::Header, shift: usize, to: &ActionMap) -> Maps
     requires { ⌜ (shift + h .states ≤ 256) × (h .actions ≤ 64) ⌝ }
-    ensures { λ r. ⌜ Raises (h .states) (h .actions) shift r ⌝ }
+    ensures { λ r. ⌜ Raises (h .states) (h .actions) shift (now (to .entry)) r ⌝ }
 {
     let mut maps = [0u16; 321];
     raise_states(&mut maps, h.states, shift);
-    keep_actions(&mut maps, h.actions);
+    put_actions(&mut maps, to, h.actions);
     maps
 }
 
@@ -361,32 +387,33 @@ pub fn load(s: &[u8], h: encoding::Header) -> Table
     requires { ⌜ ReadableAs (now s) h ⌝ }
     ensures { λ r. ⌜ Holds (ltsOf (now (s .entry))) r ⌝ }
 {
-    let maps = raised(h, 0);
+    let same = same_actions(h.actions);
+    let maps = raised(h, 0, &same);
     load_mapped(s, h, &maps, h.states, h.actions)
 }
 
-// The larger of two numbers.
-fn larger(a: usize, b: usize) -> usize
-    ensures { λ r. ⌜ r ≡ max a b ⌝ }
-{
-    if a < b {
-        return b;
-    }
-    a
-}
-
-// The table of two readable sheets side by side: the states of the second follow those of the first.
-pub fn load_both(first: &[u8], h: encoding::Header, second: &[u8], g: encoding::Header) -> Table
+// The table of two readable sheets side by side, with m actions: the states of the second follow those of the first, and its actions go where `to`
+// says.
+pub fn load_both(
+    first: &[u8],
+    h: encoding::Header,
+    second: &[u8],
+    g: encoding::Header,
+    to: &ActionMap,
+    m: usize,
+) -> Table
     requires { ⌜ ReadableAs (now first) h × ReadableAs (now second) g ⌝ }
     requires { ⌜ (h .states + g .states ≤ 256) × (h .transitions + g .transitions ≤ 1024) ⌝ }
-    ensures { λ r. ⌜ Holds (disjointUnion (ltsOf (now (first .entry))) (ltsOf (now (second .entry)))) r ⌝ }
+    requires { ⌜ (h .actions ≤ m) × (m ≤ 64) × ((b : ℕ) → 1 ≤ b → b ≤ g .actions → (1 ≤ getD (now to) b 0) × (getD (now to) b 0 ≤ m)) ⌝ }
+    ensures { λ r. ⌜ (let M = mapped (g .states) m (λ p. p) (λ b. getD (now (to .entry)) b 0) (ltsOf (now (second .entry))) in
+        Holds (disjointUnion (ltsOf (now (first .entry))) M) r) ⌝ }
 {
     let mut table = [0u16; 3588];
-    let m = larger(h.actions, g.actions);
     let n = h.states + g.states;
-    let own = raised(h, 0);
+    let same = &same_actions(m);
+    let own = raised(h, 0, same);
     load_rows(first, h, &own, 0, h.states, m, &mut table);
-    let behind = raised(g, h.states);
+    let behind = raised(g, h.states, to);
     load_rows(second, g, &behind, h.states, n, m, &mut table);
     let k = offset(&table, n);
     put_counts(&mut table, n, m, k);

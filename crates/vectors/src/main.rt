@@ -60,7 +60,7 @@ fn run_case(operation: u8, s: &[u8]) {
 }
 
 fn read_sheet(operation: u8) {
-    let mut s = [0u8; 7176];
+    let mut s = [0u8; 8200];
     let n = fields::read_field(&mut s);
     run_case(operation, &s[..n]);
 }

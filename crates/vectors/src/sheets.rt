@@ -25,7 +25,7 @@ fn put_compared(answer: comparison::Compared) {
 
 // Operation 8, compare: two sheets.
 pub fn run_compared(first: &[u8]) {
-    let mut second = [0u8; 7176];
+    let mut second = [0u8; 8200];
     let n = fields::read_field(&mut second);
     put_compared(comparison::compare(first, &second[..n]));
 }
@@ -60,7 +60,7 @@ fn put_joined(first: &[u8], second: &[u8], out: &mut [u8]) {
 
 // Operation 15, join: two sheets and a buffer.
 pub fn run_joined(first: &[u8]) {
-    let mut second = [0u8; 7176];
+    let mut second = [0u8; 8200];
     let n = fields::read_field(&mut second);
     let mut out = [0u8; 8208];
     let k = fields::read_field(&mut out);

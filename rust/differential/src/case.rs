@@ -49,14 +49,22 @@ impl Call {
     /// The numbers of the refusals that the call can give, in the table's order.
     pub fn refusals(self) -> &'static [u8] {
         match self {
-            Call::Coarsest => &[1, 2, 3, 4, 5, 16, 6, 8, 9, 10, 15],
-            Call::Compare => &[1, 2, 3, 4, 5, 16, 6, 7],
-            Call::Normalise | Call::EndStart => &[1, 2, 3, 4, 5, 16, 6, 15],
-            Call::TestSimulation => &[1, 2, 3, 4, 5, 16, 6, 8, 9, 10],
-            Call::CheckPlan => &[1, 2, 3, 4, 5, 16, 6, 8, 9, 10, 14],
-            Call::WritePlan => &[1, 2, 3, 4, 5, 16, 6, 8, 9, 10, 11, 13, 15],
-            Call::HandPlay => &[1, 2, 3, 4, 5, 16, 6, 8, 9, 10, 11, 12],
-            Call::Join => &[1, 2, 3, 4, 5, 16, 6, 7, 15],
+            Call::Coarsest => &[1, 2, 17, 3, 4, 5, 16, 6, 8, 9, 10, 15],
+            Call::Compare => &[1, 2, 17, 3, 4, 5, 16, 6, 7, 18],
+            Call::Normalise | Call::EndStart => &[1, 2, 17, 3, 4, 5, 16, 6, 15],
+            Call::TestSimulation => &[1, 2, 17, 3, 4, 5, 16, 6, 8, 9, 10],
+            Call::CheckPlan => &[1, 2, 17, 3, 4, 5, 16, 6, 8, 9, 10, 14],
+            Call::WritePlan => &[1, 2, 17, 3, 4, 5, 16, 6, 8, 9, 10, 11, 13, 15],
+            Call::HandPlay => &[1, 2, 17, 3, 4, 5, 16, 6, 8, 9, 10, 11, 12],
+            Call::Join => &[1, 2, 17, 3, 4, 5, 16, 6, 7, 18, 15],
+        }
+    }
+
+    /// How many sheets the call takes: its first buffers.
+    pub fn sheets(self) -> usize {
+        match self {
+            Call::Compare | Call::Join => 2,
+            _ => 1,
         }
     }
 

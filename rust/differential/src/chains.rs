@@ -2,7 +2,7 @@
 
 use reference::prng::Prng;
 use reference::refusal::Refusal;
-use reference::sheet::{length, HEADER, PAGE_RECORD};
+use reference::sheet::{length, named_length, HEADER, NAMED, PAGE_RECORD};
 
 /// What is wrong with the first and next indices that name a record.
 #[derive(Clone, Copy, PartialEq, Eq, Debug)]
@@ -58,6 +58,8 @@ pub fn put(rng: &mut Prng, fault: Fault, record: usize, sheet: &mut [u8]) -> Opt
 /// records.
 struct Indices {
     pages: usize,
+    /// The bytes of the labels.
+    labels: usize,
     numbers: Vec<usize>,
 }
 
@@ -68,22 +70,42 @@ impl Indices {
         if sheet.len() < HEADER {
             return None;
         }
-        let number = |at: usize| usize::from(sheet[at]) + 256 * usize::from(sheet[at + 1]);
-        let (pages, records) = (number(0), number(4));
-        if pages == 0 || sheet.len() != length(pages, records) {
+        let number = |at: usize| u16::from_le_bytes([sheet[at], sheet[at + 1]]);
+        let records = usize::from(number(4));
+        let pages = usize::from(number(0) & !NAMED);
+        let labels = match number(0) & NAMED {
+            0 => 0,
+            _ => named_length(0, number(2).into(), 0) - HEADER,
+        };
+        if pages == 0 || sheet.len() != labels + length(pages, records) {
             return None;
         }
-        let index = |at| number(place(pages, at));
-        let numbers: Vec<usize> = (0..pages + records).map(index).collect();
-        let name_records = numbers.iter().all(|&number| number <= records);
-        name_records.then_some(Indices { pages, numbers })
+        let mut indices = Indices {
+            pages,
+            labels,
+            numbers: vec![0; pages + records],
+        };
+        for at in 0..indices.numbers.len() {
+            indices.numbers[at] = number(indices.place(at)).into();
+        }
+        let name_records = indices.numbers.iter().all(|&number| number <= records);
+        name_records.then_some(indices)
     }
 
     fn write(&self, sheet: &mut [u8]) {
         for (at, &number) in self.numbers.iter().enumerate() {
-            let place = place(self.pages, at);
+            let place = self.place(at);
             sheet[place..place + 2].copy_from_slice(&(number as u16).to_le_bytes());
         }
+    }
+
+    /// Where an index stands in the bytes of the sheet.
+    fn place(&self, at: usize) -> usize {
+        let behind = match at.checked_sub(self.pages) {
+            None => HEADER + PAGE_RECORD * at + 2,
+            Some(record) => length(self.pages, record) + 4,
+        };
+        self.labels + behind
     }
 
     fn records(&self) -> usize {
@@ -210,15 +232,6 @@ impl Indices {
     }
 }
 
-/// Where an index stands in the bytes of a sheet.
-fn place(pages: usize, at: usize) -> usize {
-    if at < pages {
-        HEADER + PAGE_RECORD * at + 2
-    } else {
-        length(pages, at - pages) + 4
-    }
-}
-
 #[cfg(test)]
 mod tests {
     use super::{put, Fault, Indices};
@@ -261,7 +274,8 @@ mod tests {
             for _ in 0..2_000 {
                 let lts = random::small(&mut rng, 6, 3);
                 let k = lts.transitions().len();
-                let before = random::shuffled_sheet(&mut rng, &lts);
+                let flow = random::labelled(&mut rng, &lts);
+                let before = random::shuffled_labelled(&mut rng, &flow);
                 let mut sheet = before.clone();
                 let record = rng.between(1, k.max(1));
                 match put(&mut rng, fault, record, &mut sheet) {
@@ -284,7 +298,8 @@ mod tests {
         let mut rng = Prng::new(21);
         for _ in 0..20_000 {
             let lts = random::small(&mut rng, 4, 2);
-            let mut sheet = random::shuffled_sheet(&mut rng, &lts);
+            let flow = random::labelled(&mut rng, &lts);
+            let mut sheet = random::shuffled_labelled(&mut rng, &flow);
             for _ in 0..rng.between(1, 3) {
                 let at = rng.below(sheet.len());
                 sheet[at] = rng.below(5) as u8;

@@ -1,36 +1,46 @@
 //! Sheets and lengths that break a rule.
 
 use crate::chains::{self, Fault};
+use reference::label_faults::LABEL_FAULTS;
+use reference::labels::{Kind, LabelledLts};
 use reference::lts::Lts;
 use reference::prng::Prng;
 use reference::random;
-use reference::sheet::{length, HEADER, MOST_MOVES, PAGE_RECORD};
+use reference::sheet::{
+    length, named_length, read, write_labelled, HEADER, MOST_MOVES, MOVE_RECORD, NAMED, PAGE_RECORD,
+};
 
 /// A sheet of the flow: mostly readable, sometimes damaged.
-pub fn sheet(rng: &mut Prng, lts: &Lts, damaged: usize) -> Vec<u8> {
+pub fn sheet(rng: &mut Prng, flow: &LabelledLts, damaged: usize) -> Vec<u8> {
     let mut sheet = if rng.chance(30) {
-        reference::sheet::write(lts)
+        write_labelled(flow)
     } else {
-        random::shuffled_sheet(rng, lts)
+        random::shuffled_labelled(rng, flow)
     };
     if rng.chance(damaged) {
         if rng.chance(4) {
             return last_record(rng);
         }
-        damage(rng, lts, &mut sheet);
+        damage(rng, flow, &mut sheet);
         if rng.chance(20) {
-            damage(rng, lts, &mut sheet);
+            damage(rng, flow, &mut sheet);
         }
     }
     sheet
 }
 
 /// Breaks some rule, most of the time.
-fn damage(rng: &mut Prng, lts: &Lts, sheet: &mut Vec<u8>) {
+fn damage(rng: &mut Prng, flow: &LabelledLts, sheet: &mut Vec<u8>) {
+    let lts = flow.lts();
     let (n, k) = (lts.states(), lts.transitions().len());
-    let page = HEADER + PAGE_RECORD * rng.below(n);
-    let record = length(n, rng.below(k.max(1)));
-    match rng.below(14) {
+    let pages = match flow.kind() {
+        Kind::Plain => HEADER,
+        Kind::Named => named_length(0, lts.actions(), 0),
+    };
+    let move_record = |at: usize| pages + PAGE_RECORD * n + MOVE_RECORD * at;
+    let page = pages + PAGE_RECORD * rng.below(n);
+    let record = move_record(rng.below(k.max(1)));
+    match rng.below(18) {
         0 => {
             let wrong = wrong_length(rng, sheet.len(), 1);
             sheet.resize_with(wrong, || rng.bits() as u8);
@@ -49,14 +59,26 @@ fn damage(rng: &mut Prng, lts: &Lts, sheet: &mut Vec<u8>) {
             let record = if rng.chance(20) { k } else { rng.between(1, k) };
             put_fault(rng, record, sheet);
         }
+        12..=15 if flow.kind() == Kind::Named => damage_label(rng, sheet),
         _ if k > 1 => {
             // The action and target of one record, in another.
-            let from = length(n, rng.below(k));
+            let from = move_record(rng.below(k));
             if from.max(record) + 4 <= sheet.len() {
                 sheet.copy_within(from..from + 4, record);
             }
         }
         _ => sheet.push(0),
+    }
+}
+
+/// Puts some fault into a label; any byte where the sheet is unreadable
+/// already.
+fn damage_label(rng: &mut Prng, sheet: &mut [u8]) {
+    let fault = LABEL_FAULTS[rng.below(LABEL_FAULTS.len())];
+    if read(sheet).is_ok() {
+        fault.damage(rng, sheet);
+    } else if let Some(byte) = sheet.get_mut(HEADER) {
+        *byte = rng.bits() as u8;
     }
 }
 
@@ -74,7 +96,8 @@ fn last_record(rng: &mut Prng) -> Vec<u8> {
     let moves: Vec<_> = (0..MOST_MOVES)
         .map(|at| (at / PAGES, 1, at % PAGES))
         .collect();
-    let mut sheet = random::shuffled_sheet(rng, &Lts::of(PAGES, 1, &moves));
+    let flow = random::labelled(rng, &Lts::of(PAGES, 1, &moves));
+    let mut sheet = random::shuffled_labelled(rng, &flow);
     put_fault(rng, MOST_MOVES, &mut sheet);
     sheet
 }
@@ -92,10 +115,12 @@ fn change_number(rng: &mut Prng, sheet: &mut [u8], at: usize, edge: usize) {
     }
 }
 
-/// Changes a count of the header, and often the length with it.
+/// Changes a count of the header or the kind, and often the length with it.
 fn change_count(rng: &mut Prng, sheet: &mut Vec<u8>) {
     const COUNTS: [&[u16]; 3] = [
-        &[0, 1, 256, 257, 258, 512],
+        &[
+            0, 1, 256, 257, 258, 512, 32_768, 32_769, 33_024, 33_025, 65_535,
+        ],
         &[0, 64, 65, 256],
         &[0, 1, 1024, 1025, 1026, u16::MAX],
     ];
@@ -103,11 +128,22 @@ fn change_count(rng: &mut Prng, sheet: &mut Vec<u8>) {
     let count = COUNTS[which][rng.below(COUNTS[which].len())];
     if let Some(place) = sheet.get_mut(2 * which..2 * which + 2) {
         place.copy_from_slice(&count.to_le_bytes());
-        let number = |at: usize| usize::from(sheet[at]) + 256 * usize::from(sheet[at + 1]);
         if sheet.len() >= HEADER && rng.chance(60) {
-            let fitting = length(number(0), number(4));
+            let fitting = fitting_length(sheet);
             sheet.resize(fitting.min(10_000), 0);
         }
+    }
+}
+
+/// The length that a header says.
+fn fitting_length(sheet: &[u8]) -> usize {
+    let number = |at: usize| u16::from_le_bytes([sheet[at], sheet[at + 1]]);
+    let [m, k] = [2, 4].map(|at| usize::from(number(at)));
+    let n = usize::from(number(0) & !NAMED);
+    if number(0) & NAMED == 0 {
+        length(n, k)
+    } else {
+        named_length(n, m, k)
     }
 }
 
@@ -134,6 +170,7 @@ mod tests {
     use super::sheet;
     use crate::flows::{self, Sizes};
     use reference::prng::Prng;
+    use reference::random;
     use reference::sheet::read;
 
     /// Every refusal of a sheet comes out; those about a record with many
@@ -144,18 +181,19 @@ mod tests {
             large: 0,
             edges: 100,
         };
-        let mut refused = [0; 17];
-        let mut records = [[0; 1_025]; 17];
+        let mut refused = [0; 18];
+        let mut records = [[0; 1_025]; 18];
         for seed in 0..20_000 {
             let rng = &mut Prng::new(seed);
             let lts = flows::flow(rng, sizes);
-            if let Err(refusal) = read(&sheet(rng, &lts, 100)) {
+            let flow = random::labelled(rng, &lts);
+            if let Err(refusal) = read(&sheet(rng, &flow, 100)) {
                 let number = usize::from(refusal.number);
                 refused[number] += 1;
                 records[number][usize::from(refusal.record)] += 1;
             }
         }
-        for number in [1, 2, 3, 4, 5, 16, 6] {
+        for number in [1, 2, 17, 3, 4, 5, 16, 6] {
             assert!(refused[number] > 100, "{number}: {refused:?}");
             let about = [5, 16].contains(&number);
             assert_eq!(records[number][0] == 0, about);

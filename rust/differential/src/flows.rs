@@ -1,5 +1,6 @@
 //! Flows of many shapes and sizes.
 
+use reference::labels::LabelledLts;
 use reference::lts::{Lts, Transition};
 use reference::prng::Prng;
 use reference::random;
@@ -62,6 +63,74 @@ pub fn flow(rng: &mut Prng, sizes: Sizes) -> Lts {
         target,
     };
     Lts::new(m, end_marks, moves.iter().map(transition).collect())
+}
+
+/// Two flows with kinds and labels. One has its own, plain or not; those of the
+/// other are its own too, partly the one's, or the one's as far as these go.
+pub fn labelled(rng: &mut Prng, [first, second]: [Lts; 2]) -> [LabelledLts; 2] {
+    if rng.chance(50) {
+        let first = random::labelled(rng, &first);
+        let second = labelled_beside(rng, second, first.labels());
+        return [first, second];
+    }
+    let second = random::labelled(rng, &second);
+    [labelled_beside(rng, first, second.labels()), second]
+}
+
+/// A flow with its kind and labels, beside one with these labels.
+fn labelled_beside(rng: &mut Prng, lts: Lts, others: &[String]) -> LabelledLts {
+    let m = lts.actions();
+    match rng.below(10) {
+        0..=2 => LabelledLts::plain(lts),
+        3 => random::named(rng, &lts),
+        4 | 5 => {
+            let labels = random::labels_from(rng, others, m);
+            LabelledLts::named(lts, labels)
+        }
+        choice => {
+            let mut labels = others.to_vec();
+            labels.truncate(m);
+            labels.extend(other_labels(rng, others, m - labels.len()));
+            let same = LabelledLts::named(lts, labels);
+            match choice {
+                6 | 7 => same,
+                _ => random::renumbered(rng, &same),
+            }
+        }
+    }
+}
+
+/// Two small flows with 64, 65 or 66 labels together.
+pub fn labels_at_limit(rng: &mut Prng) -> [LabelledLts; 2] {
+    let small = |rng: &mut Prng, m: usize| {
+        let n = rng.between(1, 8);
+        random::lts(rng, n, m, 2 * n, 10)
+    };
+    let together = MOST_ACTIONS + rng.below(3);
+    let m = rng.between(together - MOST_ACTIONS, MOST_ACTIONS);
+    let first = small(rng, m);
+    let first = random::labelled(rng, &first);
+    let mut labels = other_labels(rng, first.labels(), together - m);
+    let shared = rng.between(0, m.min(MOST_ACTIONS - labels.len()));
+    labels.extend_from_slice(&first.labels()[..shared]);
+    rng.shuffle(&mut labels);
+    let second = LabelledLts::named(small(rng, labels.len()), labels);
+    match rng.below(2) {
+        0 => [first, second],
+        _ => [second, first],
+    }
+}
+
+/// As many different labels that are not among those taken.
+fn other_labels(rng: &mut Prng, taken: &[String], count: usize) -> Vec<String> {
+    let mut labels = Vec::new();
+    while labels.len() < count {
+        let label = random::label(rng);
+        if !taken.contains(&label) && !labels.contains(&label) {
+            labels.push(label);
+        }
+    }
+    labels
 }
 
 /// Moves of some shape.

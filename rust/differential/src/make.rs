@@ -5,12 +5,13 @@ use crate::damage::{sheet, wrong_length};
 use crate::flows::{self, Sizes};
 use crate::grids;
 use crate::sides::{carried, carried16};
+use reference::labels::LabelledLts;
 use reference::lts::Lts;
 use reference::plans::{Rounds, ENTRY_NUMBERS};
 use reference::prng::Prng;
 use reference::relation::{Preorder, Relation};
-use reference::sheet::length;
-use reference::{fixpoint, grid, random};
+use reference::sheet::write_labelled;
+use reference::{compare, fixpoint, grid, random};
 
 /// How many in a hundred sheets, starts and lengths are damaged.
 const DAMAGED: usize = 15;
@@ -41,13 +42,13 @@ pub fn case(call: Call, seed: u64) -> Case {
             two_sheets(rng, FEW, &mut case);
         }
         Call::Normalise => {
-            let lts = flow_and_sheet(rng, MANY, &mut case);
-            let right = length(lts.states(), lts.transitions().len());
+            let flow = flow_and_sheet(rng, MANY, &mut case);
+            let right = write_labelled(&flow).len();
             case.bytes.push(result_buffer(rng, right, 1));
         }
         Call::EndStart => {
-            let lts = flow_and_sheet(rng, MANY, &mut case);
-            let right = 8 * grid::length(lts.states());
+            let flow = flow_and_sheet(rng, MANY, &mut case);
+            let right = 8 * grid::length(flow.lts().states());
             case.bytes.push(result_buffer(rng, right, 8));
         }
         Call::TestSimulation => {
@@ -91,19 +92,20 @@ pub fn case(call: Call, seed: u64) -> Case {
     case
 }
 
-/// A flow; its sheet is the case's first buffer.
-fn flow_and_sheet(rng: &mut Prng, sizes: Sizes, case: &mut Case) -> Lts {
+/// A flow of either kind; its sheet is the case's first buffer.
+fn flow_and_sheet(rng: &mut Prng, sizes: Sizes, case: &mut Case) -> LabelledLts {
     let lts = flows::flow(rng, sizes);
-    case.bytes.push(sheet(rng, &lts, DAMAGED));
-    lts
+    let flow = random::labelled(rng, &lts);
+    case.bytes.push(sheet(rng, &flow, DAMAGED));
+    flow
 }
 
 /// A flow and a start; sheet and grid are the case's first buffers.
 fn flow_and_start(rng: &mut Prng, sizes: Sizes, case: &mut Case) -> (Lts, Preorder) {
-    let lts = flow_and_sheet(rng, sizes, case);
-    let start = grids::preorder(rng, &lts);
+    let flow = flow_and_sheet(rng, sizes, case);
+    let start = grids::preorder(rng, flow.lts());
     case.bytes.push(grids::start(rng, &start, BROKEN));
-    (lts, start)
+    (flow.lts().clone(), start)
 }
 
 /// Random bytes.
@@ -143,36 +145,37 @@ fn coarsest(rng: &mut Prng, case: &mut Case) {
     case.bytes.extend([grid, names]);
 }
 
-/// Two sheets: unlike ones, like ones, and now and then too large together.
-/// Gives the length of the joined sheet.
+/// Two sheets, of one kind or of two: unlike ones, like ones, and now and then
+/// too large together. Gives the length of the joined sheet, 0 if there is none.
 fn two_sheets(rng: &mut Prng, sizes: Sizes, case: &mut Case) -> usize {
-    let [first, second] = if rng.chance(3) {
-        at_limits(rng, case)
-    } else {
-        two_flows(rng, sizes, case)
+    let (flows, damaged) = match rng.below(100) {
+        0..=2 => (at_limits(rng), 0),
+        3 | 4 => (flows::labels_at_limit(rng), 0),
+        _ => (two_flows(rng, sizes), DAMAGED),
     };
-    let moves = first.transitions().len() + second.transitions().len();
-    length(first.states() + second.states(), moves)
+    for flow in &flows {
+        case.bytes.push(sheet(rng, flow, damaged));
+    }
+    let joined = compare::join_labelled(&flows[0], &flows[1]);
+    joined.map_or(0, |joined| write_labelled(&joined).len())
 }
 
 /// Two flows, unlike ones or like ones.
-fn two_flows(rng: &mut Prng, sizes: Sizes, case: &mut Case) -> [Lts; 2] {
-    let first = flow_and_sheet(rng, sizes, case);
-    if rng.chance(50) {
-        let second = flow_and_sheet(rng, sizes, case);
-        return [first, second];
-    }
+fn two_flows(rng: &mut Prng, sizes: Sizes) -> [LabelledLts; 2] {
+    let first = flows::flow(rng, sizes);
     // The same flow with one move more or less, either way round.
-    let second = random::fewer(rng, &first, 1);
-    case.bytes.push(sheet(rng, &second, DAMAGED));
-    if rng.chance(50) {
-        case.bytes.swap(0, 1);
+    let second = match rng.below(2) {
+        0 => flows::flow(rng, sizes),
+        _ => random::fewer(rng, &first, 1),
+    };
+    match rng.below(2) {
+        0 => flows::labelled(rng, [first, second]),
+        _ => flows::labelled(rng, [second, first]),
     }
-    [first, second]
 }
 
 /// Pages or moves that together are at the limit or just above.
-fn at_limits(rng: &mut Prng, case: &mut Case) -> [Lts; 2] {
+fn at_limits(rng: &mut Prng) -> [LabelledLts; 2] {
     let above = rng.below(2);
     let flows = if rng.chance(50) {
         let n = rng.between(1, 255);
@@ -181,10 +184,7 @@ fn at_limits(rng: &mut Prng, case: &mut Case) -> [Lts; 2] {
         let k = rng.between(0, 1024);
         [k, 1024 + above - k].map(|k| random::lts_exact(rng, 24, 2, k, 0))
     };
-    for lts in &flows {
-        case.bytes.push(sheet(rng, lts, 0));
-    }
-    flows
+    flows::labelled(rng, flows)
 }
 
 /// A buffer for a joined sheet: of its length, longer, one byte shorter,
@@ -194,7 +194,7 @@ fn join_buffer(rng: &mut Prng, right: usize) -> Vec<u8> {
         0..=2 => right,
         3..=5 => right + rng.between(1, 40),
         6 => right + rng.below(9000),
-        7 => right - 1,
+        7 => right.saturating_sub(1),
         8 => 0,
         _ => wrong_length(rng, right, 6),
     };

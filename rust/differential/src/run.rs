@@ -6,9 +6,10 @@ use crate::case::{Call, Case, Outcome};
 use crate::make;
 use crate::memory::{Slot, SLOTS};
 use crate::sides;
+use reference::sheet::NAMED;
 
 /// One more than the highest number of a refusal.
-const NUMBERS: usize = 17;
+const NUMBERS: usize = 19;
 
 /// The refusals that are about a record.
 const ABOUT_A_RECORD: [u8; 2] = [5, 16];
@@ -24,6 +25,8 @@ pub struct Tally {
     /// How many were answered, and how many of these with a yes.
     pub answered: u64,
     pub yes: u64,
+    /// How many were answered on no named sheet, on one and on two.
+    pub named: [u64; 3],
 }
 
 impl Tally {
@@ -45,7 +48,9 @@ impl Tally {
             let count = self.past_first[usize::from(number)];
             want(&format!("refusal {number} past record 1"), count);
         }
-        want("an answer", self.answered);
+        for (named, &count) in self.named[..=self.call.sheets()].iter().enumerate() {
+            want(&format!("an answer on {named} named sheets"), count);
+        }
         if self.call.says_yes_or_no() {
             want("a yes", self.yes);
             want("a no", self.answered - self.yes);
@@ -55,6 +60,7 @@ impl Tally {
 
     /// Counts one outcome.
     fn count(&mut self, outcome: &Outcome) {
+        let sheets = &outcome.bytes[..self.call.sheets()];
         match &outcome.answer {
             Err(refusal) => {
                 let number = usize::from(refusal.number);
@@ -63,6 +69,7 @@ impl Tally {
             }
             Ok(values) => {
                 self.answered += 1;
+                self.named[sheets.iter().filter(|sheet| is_named(sheet)).count()] += 1;
                 if self.call.says_yes_or_no() {
                     self.yes += values[0];
                 }
@@ -77,12 +84,18 @@ impl fmt::Display for Tally {
         if self.call.says_yes_or_no() {
             write!(f, " (yes {})", self.yes)?;
         }
-        write!(f, "; refused")?;
+        let named = &self.named[1..=self.call.sheets()];
+        write!(f, "; on named sheets {named:?}; refused")?;
         for &number in self.call.refusals() {
             write!(f, " {number}:{}", self.refused[usize::from(number)])?;
         }
         Ok(())
     }
+}
+
+/// Is a readable sheet a named one?
+fn is_named(sheet: &[u8]) -> bool {
+    u16::from_le_bytes([sheet[0], sheet[1]]) & NAMED != 0
 }
 
 /// A case on which the two sides differ.
@@ -122,6 +135,7 @@ pub fn run<S: Slot>(
         past_first: [0; NUMBERS],
         answered: 0,
         yes: 0,
+        named: [0; 3],
     };
     for number in 0..cases {
         let seed = seed.wrapping_add(number);

@@ -5,6 +5,8 @@
 mod faults;
 
 use differential::{damage, flows};
+use reference::label_faults;
+use reference::labels::LabelledLts;
 use reference::lts::Lts;
 use reference::prng::Prng;
 use reference::random;
@@ -141,17 +143,49 @@ fn no_record_is_printed() {
     }
 }
 
-/// The largest sheet has 7,174 bytes; the program reads one byte more.
+/// The text has no names: it is the plain sheet's.
+#[test]
+fn named_sheets() {
+    let name = *b"open_flock\0\0\0\0\0\0";
+    let named = [&[3, 128, 1, 0, 2, 0], &name[..], &F3[6..]].concat();
+    assert_eq!(printed(&named), printed(&F3));
+    let mut bad = named.clone();
+    bad[6] = b' ';
+    assert_eq!(printed(&bad), "refused 17\n");
+    let twice = [&[3, 128, 2, 0, 2, 0], &name[..], &name, &F3[6..]].concat();
+    assert_eq!(printed(&twice), "refused 17\n");
+    let no_names = [2, 128, 0, 0, 0, 0, 0, 0, 0, 0, 0, 0, 0, 0];
+    assert_eq!(
+        printed(&no_names),
+        "pages 2 turns 0 kept 4 classes 1\n0 0 0 1\n1 0 0 1\n"
+    );
+    for fault in label_faults::small() {
+        assert_eq!(printed(&fault.sheet), "refused 17\n");
+    }
+    for sheet in label_faults::near_misses() {
+        assert!(printed(&sheet).starts_with("pages 3 "), "for {sheet:?}");
+        agrees(&sheet);
+    }
+}
+
+/// The longest sheet has 8,198 bytes, the longest plain one 7,174; the program
+/// reads one byte more.
 #[test]
 fn lengths_around_the_most_that_is_read() {
+    assert_eq!(MOST_BYTES, 8_199);
     let mut rng = Prng::new(4_000_000);
-    let largest = sheet::write(&random::lts_exact(&mut rng, 256, 64, 1_024, 10));
-    assert_eq!(largest.len(), 7_174);
-    assert!(printed(&largest).starts_with("pages 256 "));
-    for length in [7_174, MOST_BYTES, 9_000] {
-        let mut input = largest.clone();
-        input.resize(length, 0);
-        agrees(&input);
+    let lts = random::lts_exact(&mut rng, 256, 64, 1_024, 10);
+    let named = random::named(&mut rng, &lts);
+    for (flow, length) in [(named, 8_198), (LabelledLts::plain(lts), 7_174)] {
+        let longest = random::shuffled_labelled(&mut rng, &flow);
+        assert_eq!(longest.len(), length);
+        assert!(printed(&longest).starts_with("pages 256 "));
+        agrees(&longest);
+        for length in [length - 1, length + 1, 8_198, 8_199, 8_200, 9_000, 100_000] {
+            let mut input = longest.clone();
+            input.resize(length, 0);
+            agrees(&input);
+        }
     }
 }
 
@@ -175,7 +209,8 @@ fn sheets_of_all_kinds() {
     for seed in 0..SHEETS {
         let mut rng = Prng::new(5_000_000 + seed);
         let lts = flows::flow(&mut rng, sizes);
-        let sheet = damage::sheet(&mut rng, &lts, 40);
+        let flow = random::labelled(&mut rng, &lts);
+        let sheet = damage::sheet(&mut rng, &flow, 40);
         refused += usize::from(sheet::read(&sheet).is_err());
         agrees(&sheet);
     }

@@ -37,6 +37,14 @@
 //! assert_eq!(refusal.to_string(), "refused 16: a record reached twice: record 1");
 //! ```
 //!
+//! # Actions by name
+//!
+//! Every call takes plain sheets and document 02's named ones, whose first
+//! number has 32,768 added and whose actions' names, 16 bytes each, stand
+//! behind the header. A plain sheet's actions count as named "1", "2" and so
+//! on. [`compare`] and [`join`] match actions by name; [`labels`] gives the
+//! names of a sheet.
+//!
 //! # Panics
 //!
 //! The archive packs an answer into one number. A number that stands for no
@@ -51,10 +59,12 @@ mod grid;
 mod packing;
 mod plan;
 mod refusal;
+mod sheet;
 
 pub use grid::Grid;
 pub use plan::{entries, Entry, ENTRY_BYTES};
 pub use refusal::Refusal;
+pub use sheet::{labels, pages, LONGEST_SHEET};
 
 use packing::Packed;
 
@@ -90,7 +100,7 @@ pub struct Pair {
 /// Coarsest: makes turns by the turn list until nothing is pending, writes
 /// the kept pairs as a grid and each page's block name, two bytes a page.
 ///
-/// Refuses with 1 to 6 and 16 for the sheet, 8 to 10 for the start, then 15. A
+/// Refuses with 1 to 6, 16 and 17 for the sheet, 8 to 10 for the start, then 15. A
 /// turn list's odd last byte is ignored.
 ///
 /// ```
@@ -120,9 +130,11 @@ pub fn coarsest(
 }
 
 /// Compare: joins two sheets and says whether page 0 of the second can follow
-/// page 0 of the first in everything, and the turns made.
+/// page 0 of the first in everything, and the turns made. Actions are matched
+/// by name.
 ///
-/// Refuses with 1 to 6 and 16 for the first sheet, then for the second, then 7.
+/// Refuses with 1 to 6, 16 and 17 for the first sheet, then for the second,
+/// then 7 and 18.
 ///
 /// ```
 /// let f1 = [1, 0, 0, 0, 0, 0, 0, 0, 0, 0]; // one page, no moves
@@ -130,6 +142,22 @@ pub fn coarsest(
 /// assert!(flow::compare(&f1, &one_loop)?.yes);
 /// assert!(!flow::compare(&one_loop, &f1)?.yes);
 /// assert_eq!(flow::compare(&f1, &[]), Err(flow::Refusal::Length));
+/// # Ok::<(), flow::Refusal>(())
+/// ```
+///
+/// Two named sheets that number their actions differently:
+///
+/// ```
+/// // One page that loops with one of two actions. A name has 16 bytes.
+/// let loops = |names: [&str; 2], action: u8| {
+///     let name = |at: usize| format!("{:\0<16}", names[at]).into_bytes();
+///     let counts = vec![1, 128, 2, 0, 1, 0]; // 32,768 and one page
+///     let (page, record) = (vec![0, 0, 1, 0], vec![action, 0, 0, 0, 0, 0]);
+///     [counts, name(0), name(1), page, record].concat()
+/// };
+/// let first = loops(["open", "close"], 1);
+/// assert!(flow::compare(&first, &loops(["close", "open"], 2))?.yes);
+/// assert!(!flow::compare(&first, &loops(["close", "open"], 1))?.yes);
 /// # Ok::<(), flow::Refusal>(())
 /// ```
 pub fn compare(first: &[u8], second: &[u8]) -> Result<Compared, Refusal> {
@@ -142,12 +170,13 @@ pub fn compare(first: &[u8], second: &[u8]) -> Result<Compared, Refusal> {
 }
 
 /// Join: writes the joined flow of two sheets as a normal sheet and gives its
-/// length. The second's pages follow the first's, actions are matched by
-/// number. Bytes past the sheet stay as they are; a buffer as long as both
-/// sheets together is long enough.
+/// length. The second's pages follow the first's. Actions are matched by name:
+/// the first's keep their numbers, the second's new ones follow. The sheet is
+/// plain where both are, and named otherwise. Bytes past the sheet stay as they
+/// are; a buffer of [`LONGEST_SHEET`] bytes is long enough.
 ///
-/// Refuses with 1 to 6 and 16 for the first sheet, then for the second, then 7,
-/// and with 15 where the buffer is shorter than the sheet.
+/// Refuses with 1 to 6, 16 and 17 for the first sheet, then for the second,
+/// then 7 and 18, and with 15 where the buffer is shorter than the sheet.
 ///
 /// ```
 /// let marked = [1, 0, 0, 0, 0, 0, 1, 0, 0, 0]; // one page with the end mark
@@ -160,6 +189,21 @@ pub fn compare(first: &[u8], second: &[u8]) -> Result<Compared, Refusal> {
 /// assert_eq!(out[20..], [9, 9]);
 /// assert_eq!(flow::join(&marked, &one_loop, &mut [9; 19]), Err(flow::Refusal::Buffer));
 /// ```
+///
+/// With names:
+///
+/// ```
+/// // One page, two actions, no moves. A name has 16 bytes.
+/// let named = |names: [&str; 2]| {
+///     let name = |at: usize| format!("{:\0<16}", names[at]).into_bytes();
+///     [vec![1, 128, 2, 0, 0, 0], name(0), name(1), vec![0; 4]].concat()
+/// };
+/// let (first, second) = (named(["open", "close"]), named(["sell", "open"]));
+/// let mut out = [0; flow::LONGEST_SHEET];
+/// let length = flow::join(&first, &second, &mut out)?;
+/// assert_eq!(flow::labels(&out[..length])?, ["open", "close", "sell"]);
+/// # Ok::<(), flow::Refusal>(())
+/// ```
 pub fn join(first: &[u8], second: &[u8], out: &mut [u8]) -> Result<usize, Refusal> {
     let mut packed = Packed::new("flow_join", archive::join(first, second, out))?;
     let length = packed.number(16) as usize;
@@ -167,9 +211,9 @@ pub fn join(first: &[u8], second: &[u8], out: &mut [u8]) -> Result<usize, Refusa
 }
 
 /// Normalise: writes the sheet's normal form into a buffer of the sheet's own
-/// length.
+/// length. A named sheet keeps its names, in their order.
 ///
-/// Refuses with 1 to 6 and 16 for the sheet, then 15.
+/// Refuses with 1 to 6, 16 and 17 for the sheet, then 15.
 ///
 /// ```
 /// let f1 = [1, 0, 0, 0, 0, 0, 0, 0, 0, 0];
@@ -185,7 +229,7 @@ pub fn normalise(sheet: &[u8], out: &mut [u8]) -> Result<(), Refusal> {
 /// End start: writes the grid that holds (p, q) unless p has the end mark and
 /// q has not.
 ///
-/// Refuses with 1 to 6 and 16 for the sheet, then 15.
+/// Refuses with 1 to 6, 16 and 17 for the sheet, then 15.
 ///
 /// ```
 /// let marked = [1, 0, 0, 0, 0, 0, 1, 0, 0, 0]; // one page with the end mark
@@ -200,7 +244,7 @@ pub fn end_start(sheet: &[u8], grid: &mut [u8]) -> Result<(), Refusal> {
 
 /// Test simulation: is the claimed grid a simulation inside the start?
 ///
-/// Refuses with 1 to 6 and 16 for the sheet, then 8 to 10 for the start, then 8
+/// Refuses with 1 to 6, 16 and 17 for the sheet, then 8 to 10 for the start, then 8
 /// for the claim.
 ///
 /// ```
@@ -220,7 +264,7 @@ pub fn test_simulation(sheet: &[u8], start: &[u8], claim: &[u8]) -> Result<bool,
 /// Check plan: accepts a non-empty plan of sound entries and gives its last
 /// pair. An entry is 8 bytes; bytes past the last whole one count for nothing.
 ///
-/// Refuses with 1 to 6 and 16 for the sheet, 8 to 10 for the start, then 14.
+/// Refuses with 1 to 6, 16 and 17 for the sheet, 8 to 10 for the start, then 14.
 ///
 /// ```
 /// let f1 = [1, 0, 0, 0, 0, 0, 0, 0, 0, 0];
@@ -241,7 +285,7 @@ pub fn check_plan(sheet: &[u8], start: &[u8], plan: &[u8]) -> Result<Pair, Refus
 /// count of entries, 8 bytes each. Bytes past them stay as they are. At most
 /// n · n entries are needed.
 ///
-/// Refuses with 1 to 6 and 16 for the sheet, 8 to 10 for the start, then 11, 13
+/// Refuses with 1 to 6, 16 and 17 for the sheet, 8 to 10 for the start, then 11, 13
 /// and 15.
 ///
 /// ```
@@ -267,7 +311,7 @@ pub fn write_plan(
 
 /// Hand play: does the challenger win at (p, q) within the given rounds?
 ///
-/// Refuses with 1 to 6 and 16 for the sheet, 8 to 10 for the start, then 11 and
+/// Refuses with 1 to 6, 16 and 17 for the sheet, 8 to 10 for the start, then 11 and
 /// 12.
 ///
 /// ```

@@ -31,6 +31,8 @@ pub enum Refusal {
     Length,
     /// 2: the number of pages, of actions or of moves is outside its range.
     Counts,
+    /// 17: a named sheet with a bad or a repeated name.
+    Label,
     /// 3: a page record's mark, spare byte or index.
     PageRecord,
     /// 4: a move record's action, spare byte, target or next index.
@@ -50,6 +52,8 @@ pub enum Refusal {
     Repeated,
     /// 7: a joined flow above 256 pages or 1,024 moves.
     Joined,
+    /// 18: a joined flow with more than 64 names.
+    TooManyLabels,
     /// 8: a grid that is read has another length, or a bit at q ≥ n.
     Grid,
     /// 9: the start is not reflexive.
@@ -74,20 +78,24 @@ const MOST_RECORDS: u16 = 1_024;
 
 impl Refusal {
     /// The numbers of all refusals, in the order of the table: 16 stands
-    /// directly after 5.
-    pub const NUMBERS: &'static [u8] = &[1, 2, 3, 4, 5, 16, 6, 7, 8, 9, 10, 11, 12, 13, 14, 15];
+    /// directly after 5, 17 after 2 and 18 after 7.
+    pub const NUMBERS: &'static [u8] = &[
+        1, 2, 17, 3, 4, 5, 16, 6, 7, 18, 8, 9, 10, 11, 12, 13, 14, 15,
+    ];
 
     /// The refusal's number in the table.
     pub fn number(self) -> u8 {
         match self {
             Refusal::Length => 1,
             Refusal::Counts => 2,
+            Refusal::Label => 17,
             Refusal::PageRecord => 3,
             Refusal::MoveRecord => 4,
             Refusal::Unreached { .. } => 5,
             Refusal::ReachedTwice { .. } => 16,
             Refusal::Repeated => 6,
             Refusal::Joined => 7,
+            Refusal::TooManyLabels => 18,
             Refusal::Grid => 8,
             Refusal::NotReflexive => 9,
             Refusal::NotTransitive => 10,
@@ -128,12 +136,14 @@ impl Refusal {
         let refusal = match number {
             1 => Refusal::Length,
             2 => Refusal::Counts,
+            17 => Refusal::Label,
             3 => Refusal::PageRecord,
             4 => Refusal::MoveRecord,
             5 => Refusal::Unreached { record },
             16 => Refusal::ReachedTwice { record },
             6 => Refusal::Repeated,
             7 => Refusal::Joined,
+            18 => Refusal::TooManyLabels,
             8 => Refusal::Grid,
             9 => Refusal::NotReflexive,
             10 => Refusal::NotTransitive,
@@ -174,12 +184,14 @@ impl Refusal {
         match self {
             Refusal::Length => "under 6 bytes, or another length than the counts say",
             Refusal::Counts => "n, m or k outside its range",
+            Refusal::Label => "a bad or repeated name",
             Refusal::PageRecord => "a page record: mark, spare byte or index",
             Refusal::MoveRecord => "a move record: action, spare byte, target or next index",
             Refusal::Unreached { .. } => "a record on no chain",
             Refusal::ReachedTwice { .. } => "a record reached twice",
             Refusal::Repeated => "an action and target twice in one chain",
             Refusal::Joined => "joined flow above 256 pages or 1,024 moves",
+            Refusal::TooManyLabels => "more than 64 joined names",
             Refusal::Grid => "a grid read: length, or a bit at q ≥ n",
             Refusal::NotReflexive => "start not reflexive",
             Refusal::NotTransitive => "start not transitive",
@@ -228,7 +240,7 @@ mod tests {
             for record in [0, 1, 2, 255, 256, MOST_RECORDS, 1_025, u16::MAX] {
                 let fits = match number {
                     5 | 16 => record != 0 && record <= 1_024,
-                    1..=15 => record == 0,
+                    1..=15 | 17 | 18 => record == 0,
                     _ => false,
                 };
                 let refusal = Refusal::from_numbers(number, record);
@@ -241,12 +253,16 @@ mod tests {
         }
     }
 
-    /// As the table has them, and so by number but for 16.
+    /// As the table has them, and so by number but for document 02's.
     #[test]
     fn the_order_of_the_table() {
         assert!(all().is_sorted());
         let mut numbers = Refusal::NUMBERS.to_vec();
-        assert_eq!(numbers.remove(5), 16);
+        for (later, directly_after) in [(16, 5), (17, 2), (18, 7)] {
+            let at = numbers.iter().position(|&n| n == later).unwrap();
+            assert_eq!(numbers[at - 1], directly_after);
+            numbers.remove(at);
+        }
         assert_eq!(numbers, (1..=15).collect::<Vec<u8>>());
     }
 

@@ -1,10 +1,11 @@
 //! Join beside compare: what coarsest finds on the joined sheet is what
 //! compare says.
 
-use flow::{Grid, Refusal};
+use flow::{Grid, Refusal, LONGEST_SHEET};
+use reference::labels::LabelledLts;
 use reference::lts::Lts;
 use reference::prng::Prng;
-use reference::{random, sheet};
+use reference::random;
 
 /// Two flows: small ones of several shapes, like ones, and now and then large
 /// ones.
@@ -21,16 +22,31 @@ fn flows(rng: &mut Prng) -> [Lts; 2] {
     [first, second]
 }
 
+/// Sheets of the flows, of one kind or of two; the same names, and some of them
+/// with other numbers.
+fn sheets(rng: &mut Prng, flows: &[Lts; 2]) -> [Vec<u8>; 2] {
+    let labels: Vec<String> = (1..=4).map(|a| a.to_string()).collect();
+    flows.each_ref().map(|lts| {
+        let own = labels[..lts.actions()].to_vec();
+        let flow = match rng.below(3) {
+            0 => LabelledLts::plain(lts.clone()),
+            1 => LabelledLts::named(lts.clone(), own),
+            _ => random::renumbered(rng, &LabelledLts::named(lts.clone(), own)),
+        };
+        random::shuffled_labelled(rng, &flow)
+    })
+}
+
 #[test]
 fn coarsest_on_the_joined_sheet_is_compare() -> Result<(), Refusal> {
     let mut rng = Prng::new(14);
     let mut answers = [0; 2];
     for _ in 0..4_000 {
         let flows = flows(&mut rng);
-        let sheets = [0, 1].map(|at| random::shuffled_sheet(&mut rng, &flows[at]));
-        let mut joined = vec![0xa5; sheets[0].len() + sheets[1].len()];
+        let sheets = sheets(&mut rng, &flows);
+        let mut joined = vec![0xa5; LONGEST_SHEET];
         let length = flow::join(&sheets[0], &sheets[1], &mut joined)?;
-        assert_eq!(joined[length..], [0xa5; sheet::HEADER]);
+        assert!(joined[length..].iter().all(|&byte| byte == 0xa5));
         joined.truncate(length);
         let first = flows[0].states();
         let pages = first + flows[1].states();
@@ -51,12 +67,11 @@ fn coarsest_on_the_joined_sheet_is_compare() -> Result<(), Refusal> {
 fn a_joined_sheet_is_normal() -> Result<(), Refusal> {
     let mut rng = Prng::new(15);
     for _ in 0..1_000 {
-        let sheets = flows(&mut rng).map(|lts| random::shuffled_sheet(&mut rng, &lts));
-        let mut joined = vec![0; sheets[0].len() + sheets[1].len() - sheet::HEADER];
-        assert_eq!(
-            flow::join(&sheets[0], &sheets[1], &mut joined)?,
-            joined.len()
-        );
+        let flows = flows(&mut rng);
+        let sheets = sheets(&mut rng, &flows);
+        let mut joined = vec![0; LONGEST_SHEET];
+        let length = flow::join(&sheets[0], &sheets[1], &mut joined)?;
+        joined.truncate(length);
         let mut normal = vec![0; joined.len()];
         flow::normalise(&joined, &mut normal)?;
         assert_eq!(normal, joined);

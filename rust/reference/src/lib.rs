@@ -1,11 +1,13 @@
 //! Independent reference for the flow comparer.
 //!
 //! Written only from document 01 (the scope: sheets, grids, turns, plans), from
-//! request L1 of document 02 (which record is off its chain) and from document
-//! 004 (the base algorithm). It aims at being plainly right rather than fast.
+//! requests L1 (which record is off its chain) and L2 (actions by name) of
+//! document 02 and from document 004 (the base algorithm). It aims at being
+//! plainly right rather than fast.
 //! Names: a page is a [`lts::State`], a move is a [`lts::Transition`], a turn
-//! list is a schedule, the name of a block is its representative, and a plan is
-//! a [`plans::Strategy`] made of [`plans::Entry`]. A call gives its result or a
+//! list is a schedule, the name of a block is its representative, the name of an
+//! action is its label, and a plan is a [`plans::Strategy`] made of
+//! [`plans::Entry`]. A call gives its result or a
 //! [`refusal::Refusal`], which has a refusal number and a record number.
 //!
 //! The calls of document 01:
@@ -30,6 +32,8 @@ pub mod fixpoint;
 pub mod game;
 pub mod grid;
 pub mod join;
+pub mod label_faults;
+pub mod labels;
 pub mod lts;
 pub mod plans;
 pub mod prng;

@@ -1,5 +1,6 @@
-//! Random flows, preorders, schedules and sheets for tests and cases.
+//! Random flows, preorders, schedules, labels and sheets for tests and cases.
 
+use crate::labels::{Kind, LabelledLts, LABEL};
 use crate::lts::{Lts, Transition};
 use crate::prng::Prng;
 use crate::relation::{Preorder, Relation};
@@ -134,8 +135,76 @@ pub fn schedule(rng: &mut Prng, most: usize) -> Vec<u16> {
     }
 }
 
-/// A readable sheet of the flow with its records in a random order and its
-/// chains linked in a random order.
+/// A label of one of several sorts, some of which often share their beginning.
+pub fn label(rng: &mut Prng) -> String {
+    let any = |rng: &mut Prng| rng.between(0x21, 0x7e) as u8 as char;
+    let long = "open_the_gate_of_the_flock";
+    match rng.below(6) {
+        0 => any(rng).to_string(),
+        1 => (0..LABEL).map(|_| any(rng)).collect(),
+        2 => rng.between(0, 70).to_string(),
+        // A beginning of the same text, and one letter more.
+        3 => long[..rng.below(LABEL)].to_string() + ["a", "b", "~"][rng.below(3)],
+        // 16 bytes, of which only the last differs.
+        4 => format!("{}{}", &long[..LABEL - 1], any(rng)),
+        _ => (0..rng.between(1, LABEL)).map(|_| any(rng)).collect(),
+    }
+}
+
+/// As many different labels.
+pub fn labels(rng: &mut Prng, m: usize) -> Vec<String> {
+    labels_from(rng, &[], m)
+}
+
+/// As many different labels, about half of them from the pool.
+pub fn labels_from(rng: &mut Prng, pool: &[String], m: usize) -> Vec<String> {
+    let mut labels: Vec<String> = Vec::new();
+    while labels.len() < m {
+        let label = if !pool.is_empty() && rng.chance(50) {
+            pool[rng.below(pool.len())].clone()
+        } else {
+            label(rng)
+        };
+        if !labels.contains(&label) {
+            labels.push(label);
+        }
+    }
+    labels
+}
+
+/// The flow with random labels.
+pub fn named(rng: &mut Prng, lts: &Lts) -> LabelledLts {
+    LabelledLts::named(lts.clone(), labels(rng, lts.actions()))
+}
+
+/// The flow as one of either kind.
+pub fn labelled(rng: &mut Prng, lts: &Lts) -> LabelledLts {
+    if rng.chance(50) {
+        LabelledLts::plain(lts.clone())
+    } else {
+        named(rng, lts)
+    }
+}
+
+/// The flow as a named one with its actions in a random order.
+pub fn renumbered(rng: &mut Prng, labelled: &LabelledLts) -> LabelledLts {
+    let mut numbers: Vec<usize> = (1..=labelled.labels().len()).collect();
+    rng.shuffle(&mut numbers);
+    labelled.renumbered(&numbers)
+}
+
+/// A readable sheet of the flow, of its own kind, with its records and chains
+/// in a random order.
+pub fn shuffled_labelled(rng: &mut Prng, labelled: &LabelledLts) -> Vec<u8> {
+    let plain = shuffled_sheet(rng, labelled.lts());
+    match labelled.kind() {
+        Kind::Plain => plain,
+        Kind::Named => sheet::with_labels(&plain, labelled.labels()),
+    }
+}
+
+/// A readable plain sheet of the flow with its records in a random order and
+/// its chains linked in a random order.
 pub fn shuffled_sheet(rng: &mut Prng, lts: &Lts) -> Vec<u8> {
     let k = lts.transitions().len();
     let mut numbers: Vec<usize> = (1..=k).collect();

@@ -1,7 +1,7 @@
 //! What a call gives instead of a result.
 
-/// A refusal: its number from the table of document 01, and the number of the
-/// move record that it is about, 0 for none.
+/// A refusal: its number from the table of document 01 or from document 02,
+/// and the number of the move record that it is about, 0 for none.
 #[derive(Clone, Copy, PartialEq, Eq, Debug)]
 pub struct Refusal {
     /// The number of the refusal.
@@ -39,6 +39,10 @@ impl Refusal {
     pub const UNSOUND: Refusal = Refusal::numbered(14);
     /// A result buffer has a wrong length.
     pub const BUFFER: Refusal = Refusal::numbered(15);
+    /// A named sheet has a bad or a repeated label.
+    pub const LABEL: Refusal = Refusal::numbered(17);
+    /// The joined flow has more than 64 labels.
+    pub const TOO_MANY_LABELS: Refusal = Refusal::numbered(18);
 
     /// The refusal of this number that names no record.
     pub const fn numbered(number: u8) -> Refusal {

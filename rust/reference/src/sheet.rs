@@ -1,5 +1,6 @@
-//! Sheets: the bytes that carry a flow.
+//! Sheets: the bytes that carry a flow, plain or with labels.
 
+use crate::labels::{self, Kind, LabelledLts, LABEL};
 use crate::lts::{Lts, Transition};
 use crate::refusal::Refusal;
 use std::iter::successors;
@@ -17,16 +18,35 @@ pub const MOST_ACTIONS: usize = 64;
 /// The largest k.
 pub const MOST_MOVES: usize = 1024;
 
-/// The length of a sheet with `n` pages and `k` move records.
+/// What a named sheet has added to its first number.
+pub const NAMED: u16 = 0x8000;
+
+/// The length of a plain sheet with `n` pages and `k` move records.
 pub fn length(n: usize, k: usize) -> usize {
     HEADER + PAGE_RECORD * n + MOVE_RECORD * k
 }
 
-/// The counts of a header.
+/// The length of a named sheet with `n` pages, `m` labels and `k` move records.
+pub fn named_length(n: usize, m: usize, k: usize) -> usize {
+    length(n, k) + LABEL * m
+}
+
+/// The kind and the counts that a header gives.
 struct Header {
+    kind: Kind,
     n: usize,
     m: usize,
     k: usize,
+}
+
+impl Header {
+    /// The length that the counts say.
+    fn length(&self) -> usize {
+        match self.kind {
+            Kind::Plain => length(self.n, self.k),
+            Kind::Named => named_length(self.n, self.m, self.k),
+        }
+    }
 }
 
 /// A page record, as it stands.
@@ -44,11 +64,46 @@ struct MoveRecord {
     next: usize,
 }
 
-/// Reads a sheet; the refusal if it is not readable.
+/// Reads a sheet of either kind; the refusal if it is not readable.
 pub fn read(bytes: &[u8]) -> Result<Lts, Refusal> {
+    read_labelled(bytes).map(|labelled| labelled.lts().clone())
+}
+
+/// The labels of a sheet's actions, decimal for a plain sheet.
+pub fn labels(bytes: &[u8]) -> Result<Vec<String>, Refusal> {
+    read_labelled(bytes).map(|labelled| labelled.labels().to_vec())
+}
+
+/// Reads a sheet with its kind and labels.
+pub fn read_labelled(bytes: &[u8]) -> Result<LabelledLts, Refusal> {
     let header = read_header(bytes)?;
-    let pages = read_pages(bytes, &header)?;
-    let records = read_records(bytes, &header)?;
+    let after_header = &bytes[HEADER..];
+    if header.kind == Kind::Plain {
+        return Ok(LabelledLts::plain(read_flow(after_header, &header)?));
+    }
+    let (fields, after_labels) = after_header.split_at(LABEL * header.m);
+    let labels = read_labels(fields)?;
+    let lts = read_flow(after_labels, &header)?;
+    Ok(LabelledLts::named(lts, labels))
+}
+
+/// The labels; refused if one is bad or comes twice.
+fn read_labels(fields: &[u8]) -> Result<Vec<String>, Refusal> {
+    let labels: Vec<String> = fields
+        .chunks_exact(LABEL)
+        .map(labels::read)
+        .collect::<Result<_, _>>()?;
+    if labels::all_differ(&labels) {
+        Ok(labels)
+    } else {
+        Err(Refusal::LABEL)
+    }
+}
+
+/// The flow that the page and move records carry.
+fn read_flow(bytes: &[u8], header: &Header) -> Result<Lts, Refusal> {
+    let pages = read_pages(bytes, header)?;
+    let records = read_records(bytes, header)?;
     let chains: Vec<Vec<usize>> = pages
         .iter()
         .map(|page| chain_from(page.first, &records))
@@ -71,7 +126,7 @@ pub fn read(bytes: &[u8]) -> Result<Lts, Refusal> {
     Ok(Lts::new(header.m, end_marks, transitions))
 }
 
-/// Writes the normal form of a flow.
+/// Writes the plain normal form of a flow.
 pub fn write(lts: &Lts) -> Vec<u8> {
     let mut bytes = Vec::new();
     for count in [lts.states(), lts.actions(), lts.transitions().len()] {
@@ -98,14 +153,40 @@ pub fn write(lts: &Lts) -> Vec<u8> {
     bytes
 }
 
-/// Normalise: writes the normal form of the sheet into a buffer of the
-/// sheet's own length. A refusal leaves the buffer as it is.
+/// Writes the normal form of a flow, of its own kind.
+pub fn write_labelled(labelled: &LabelledLts) -> Vec<u8> {
+    let plain = write(labelled.lts());
+    match labelled.kind() {
+        Kind::Plain => plain,
+        Kind::Named => with_labels(&plain, labelled.labels()),
+    }
+}
+
+/// The named sheet with the records of a plain one, as they stand.
+pub fn with_labels(plain: &[u8], labels: &[String]) -> Vec<u8> {
+    let fields: Vec<[u8; LABEL]> = labels
+        .iter()
+        .map(|label| labels::field(label.as_bytes()))
+        .collect();
+    with_fields(plain, &fields)
+}
+
+/// The same with any fields in the labels' place; the sheet need not be readable.
+pub fn with_fields(plain: &[u8], fields: &[[u8; LABEL]]) -> Vec<u8> {
+    let (header, records) = plain.split_at(HEADER);
+    let mut bytes = [header, &fields.concat(), records].concat();
+    bytes[1] |= (NAMED >> 8) as u8;
+    bytes
+}
+
+/// Normalise: writes the normal form of the sheet, of its own kind, into a
+/// buffer of the sheet's own length. A refusal leaves the buffer as it is.
 pub fn normalise(sheet: &[u8], out: &mut [u8]) -> Result<(), Refusal> {
-    let lts = read(sheet)?;
+    let labelled = read_labelled(sheet)?;
     if out.len() != sheet.len() {
         return Err(Refusal::BUFFER);
     }
-    out.copy_from_slice(&write(&lts));
+    out.copy_from_slice(&write_labelled(&labelled));
     Ok(())
 }
 
@@ -124,25 +205,28 @@ fn read_header(bytes: &[u8]) -> Result<Header, Refusal> {
     if bytes.len() < HEADER {
         return Err(Refusal::LENGTH);
     }
-    let (n, m, k) = (
-        number_at(bytes, 0),
-        number_at(bytes, 2),
-        number_at(bytes, 4),
-    );
+    let [first, m, k] = [0, 2, 4].map(|at| number_at(bytes, at));
+    let named = usize::from(NAMED);
+    let (kind, n) = if first >= named {
+        (Kind::Named, first - named)
+    } else {
+        (Kind::Plain, first)
+    };
     if !(1..=MOST_PAGES).contains(&n) || m > MOST_ACTIONS || k > MOST_MOVES {
         return Err(Refusal::RANGE);
     }
-    if bytes.len() != length(n, k) {
+    let header = Header { kind, n, m, k };
+    if bytes.len() != header.length() {
         return Err(Refusal::LENGTH);
     }
-    Ok(Header { n, m, k })
+    Ok(header)
 }
 
-/// The page records; refused if one breaks a rule.
+/// The page records at the beginning; refused if one breaks a rule.
 fn read_pages(bytes: &[u8], header: &Header) -> Result<Vec<PageRecord>, Refusal> {
     let mut pages = Vec::new();
     for p in 0..header.n {
-        let at = HEADER + PAGE_RECORD * p;
+        let at = PAGE_RECORD * p;
         let page = PageRecord {
             mark: bytes[at],
             spare: bytes[at + 1],
@@ -156,11 +240,11 @@ fn read_pages(bytes: &[u8], header: &Header) -> Result<Vec<PageRecord>, Refusal>
     Ok(pages)
 }
 
-/// The move records; refused if one breaks a rule.
+/// The move records after them; refused if one breaks a rule.
 fn read_records(bytes: &[u8], header: &Header) -> Result<Vec<MoveRecord>, Refusal> {
     let mut records = Vec::new();
     for i in 0..header.k {
-        let at = HEADER + PAGE_RECORD * header.n + MOVE_RECORD * i;
+        let at = PAGE_RECORD * header.n + MOVE_RECORD * i;
         let record = MoveRecord {
             action: usize::from(bytes[at]),
             spare: bytes[at + 1],

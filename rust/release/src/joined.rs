@@ -1,22 +1,19 @@
 //! The joined flow of a site and its rules, and the proved calls on it.
 
-use flow::{Compared, Entry, Grid, Pair, Refusal, ENTRY_BYTES};
+use flow::{Compared, Entry, Grid, Pair, Refusal, ENTRY_BYTES, LONGEST_SHEET};
 use std::ops::Range;
 
 /// The joined flow of two sheets that compare has read.
 pub struct Joined {
     sheet: Vec<u8>,
+    /// The names of its actions, that of action 1 first.
+    pub labels: Vec<String>,
     /// The end start.
     start: Grid,
     /// The start that holds each page with itself alone.
     diagonal: Grid,
     /// The pages that come from the rules' sheet, behind the site's.
     pub rules: Range<u16>,
-}
-
-/// The header's count of pages.
-fn pages(sheet: &[u8]) -> u16 {
-    u16::from_le_bytes([sheet[0], sheet[1]])
 }
 
 /// What it means that a call refuses here.
@@ -27,14 +24,17 @@ fn unexpected(call: &'static str) -> impl Fn(Refusal) -> String {
 impl Joined {
     /// Joins two sheets.
     pub fn new(site: &[u8], rules: &[u8]) -> Result<Joined, String> {
-        let mut sheet = vec![0; site.len() + rules.len()];
+        let mut sheet = vec![0; LONGEST_SHEET];
         let length = flow::join(site, rules, &mut sheet).map_err(unexpected("join"))?;
         sheet.truncate(length);
-        let rules = pages(site)..pages(&sheet);
+        let pages = |sheet: &[u8]| flow::pages(sheet).map_err(unexpected("normalise"));
+        let rules = pages(site)?..pages(&sheet)?;
+        let labels = flow::labels(&sheet).map_err(unexpected("normalise"))?;
         let mut start = Grid::new(rules.end.into());
         flow::end_start(&sheet, start.bytes_mut()).map_err(unexpected("end start"))?;
         Ok(Joined {
             sheet,
+            labels,
             start,
             diagonal: Grid::diagonal(rules.end.into()),
             rules,

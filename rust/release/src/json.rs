@@ -10,14 +10,11 @@ pub fn line(found: &Result<Verdict, String>) -> String {
         Ok(Verdict::Open { turns }) => {
             vec![("result", string("open")), ("turns", turns.to_string())]
         }
-        Ok(Verdict::Closed { turns, reason }) => vec![
-            ("result", string("closed")),
-            ("turns", turns.to_string()),
-            match reason {
-                Reason::Story(steps) => ("steps", array(steps.iter().enumerate().map(step))),
-                Reason::Entries(entries) => ("entries", array(entries.iter().map(entry))),
-            },
-        ],
+        Ok(Verdict::Closed { turns, reason }) => {
+            let mut fields = vec![("result", string("closed")), ("turns", turns.to_string())];
+            fields.extend(why(reason));
+            fields
+        }
         Ok(Verdict::Refused { refusal, sheet }) => vec![
             ("result", string("refused")),
             ("number", refusal.number().to_string()),
@@ -31,6 +28,17 @@ pub fn line(found: &Result<Verdict, String>) -> String {
         Err(message) => vec![("result", string("error")), ("message", string(message))],
     };
     object(&fields) + "\n"
+}
+
+/// The story, or the entries with the names of all actions, in order.
+fn why(reason: &Reason) -> Vec<(&'static str, String)> {
+    match reason {
+        Reason::Story(steps) => vec![("steps", array(steps.iter().enumerate().map(step)))],
+        Reason::Entries { labels, entries } => vec![
+            ("labels", array(labels.iter().map(|label| string(label)))),
+            ("entries", array(entries.iter().map(entry))),
+        ],
+    }
 }
 
 /// A value that may be missing.
@@ -49,11 +57,13 @@ fn step((at, step): (usize, &Step)) -> String {
         Why::EndMark => fields.push(("why", string("end mark"))),
         Why::Move {
             action,
+            label,
             target,
             replies,
         } => fields.extend([
             ("why", string("move")),
             ("action", action.to_string()),
+            ("label", string(label)),
             ("target", target.to_string()),
             ("replies", array(replies.iter().map(reply))),
         ]),

@@ -1,9 +1,9 @@
 //! `release [--entries] [--json] SITE RULES`: may the site be released under
 //! its access rules?
 //!
-//! SITE and RULES are files with one sheet each. The answer comes from proved
-//! calls alone; of the sheets the tool itself reads no more than the count of
-//! pages in the header.
+//! SITE and RULES are files with one sheet each, plain or named. The answer
+//! comes from proved calls alone; of the sheets the tool itself takes no more
+//! than the count of pages and the actions' names.
 //!
 //! | Status | First line | When |
 //! |---|---|---|
@@ -12,10 +12,12 @@
 //! | 2 | `refused` and a number | a sheet is refused |
 //! | 2 | none; one line on standard error | bad usage, a file that cannot be read, an output that cannot be written, an internal failure |
 //!
-//! A refusal's line has its sentence, the record that it is about, if any, and
+//! Actions are told by their names, which a plain sheet's have by number. A
+//! refusal's line has its sentence, the record that it is about, if any, and
 //! the sheet. With `--entries` the plan's bare entries stand in the place of
-//! the story, with the page numbers of the joined flow. With `--json` the same
-//! content is one JSON object on one line, a failure's line too.
+//! the story, with the page and action numbers of the joined flow. With
+//! `--json` the same content is one JSON object on one line, a failure's line
+//! too; it has the joined flow's action numbers beside the names.
 
 #![deny(unsafe_code)]
 
@@ -40,9 +42,9 @@ use verdict::Verdict;
 /// The status where there is no verdict.
 const NO_VERDICT: u8 = 2;
 
-/// The longest sheet has 7,174 bytes. One byte more is enough to refuse a
-/// longer file as the whole of it would be.
-const MOST_BYTES: u64 = 7_175;
+/// One byte more than the longest sheet has is enough to refuse a longer file
+/// as the whole of it would be.
+const MOST_BYTES: u64 = flow::LONGEST_SHEET as u64 + 1;
 
 /// What the tool is asked for.
 struct Request {

@@ -21,7 +21,10 @@ pub enum Why {
     EndMark,
     /// The site moves, and the rules lose with each reply.
     Move {
+        /// Its number in the joined flow.
         action: u16,
+        /// Its name.
+        label: String,
         target: u16,
         replies: Vec<Reply>,
     },
@@ -52,6 +55,7 @@ pub fn tell(joined: &Joined, plan: &[Entry]) -> Result<Vec<Step>, String> {
             0 => Why::EndMark, // The pair is outside the end start.
             action => Why::Move {
                 action,
+                label: joined.labels[usize::from(action) - 1].clone(),
                 target: entry.t,
                 replies: pages
                     .iter()

@@ -6,6 +6,7 @@ use crate::text;
 use crate::verdict::{judge, Reason, Sheet, Verdict};
 use differential::flows::{self, Sizes};
 use flow::{Compared, Entry, Refusal};
+use reference::labels::LabelledLts;
 use reference::lts::{Lts, Transition};
 use reference::plans::Rounds;
 use reference::prng::Prng;
@@ -24,10 +25,20 @@ fn steps(site: &[u8], rules: &[u8]) -> Option<Vec<Step>> {
     }
 }
 
+/// The text for two sheets.
+fn told(site: &[u8], rules: &[u8]) -> String {
+    text::lines(&judge(site, rules, false).unwrap())
+}
+
 /// The text for two flows.
 fn text(site: &Lts, rules: &Lts) -> String {
-    let (site, rules) = (sheet::write(site), sheet::write(rules));
-    text::lines(&judge(&site, &rules, false).unwrap())
+    told(&sheet::write(site), &sheet::write(rules))
+}
+
+/// The named sheet of a flow.
+fn named(lts: &Lts, labels: &[&str]) -> Vec<u8> {
+    let labels = labels.iter().map(|label| label.to_string()).collect();
+    sheet::write_labelled(&LabelledLts::named(lts.clone(), labels))
 }
 
 /// A flow with one end mark.
@@ -44,6 +55,40 @@ fn a_move_without_reply() {
     let told = "closed\nstep 1 (site at page 0, rules at page 0): \
         the site moves 0 -3-> 4; the rules at page 0 have no move 3\n";
     assert_eq!(text(&site, &rules), told);
+}
+
+/// The rules' action 1 is the site's action 2, by name.
+#[test]
+fn actions_by_name() {
+    let site = Lts::of(3, 2, &[(0, 2, 1), (1, 1, 2)]);
+    let site = named(&site, &["sign-out", "open\"->"]);
+    let rules = Lts::of(2, 2, &[(0, 1, 1), (1, 1, 1)]);
+    let words = "closed\n\
+        step 1 (site at page 0, rules at page 0): the site moves 0 -open\"->-> 1; \
+        whatever the rules answer from page 0 by action open\"->:\n\
+        \x20 page 1: see step 2\n\
+        step 2 (site at page 1, rules at page 1): the site moves 1 -sign-out-> 2; \
+        the rules at page 1 have no move sign-out\n";
+    assert_eq!(
+        told(&site, &named(&rules, &["open\"->", "sign-out"])),
+        words
+    );
+    assert_eq!(told(&site, &named(&rules, &["open\"->", "new"])), words);
+    // A plain sheet's actions are named by their numbers.
+    let words = "closed\nstep 1 (site at page 0, rules at page 0): \
+        the site moves 0 -open\"->-> 1; the rules at page 0 have no move open\"->\n";
+    assert_eq!(told(&site, &sheet::write(&rules)), words);
+    let one = Lts::of(1, 1, &[(0, 1, 0)]);
+    let (plain, two) = (sheet::write(&one), named(&one, &["2"]));
+    let words = |label| {
+        format!(
+            "closed\nstep 1 (site at page 0, rules at page 0): \
+            the site moves 0 -{label}-> 0; the rules at page 0 have no move {label}\n"
+        )
+    };
+    assert_eq!(told(&plain, &two), words("1"));
+    assert_eq!(told(&two, &plain), words("2"));
+    assert_eq!(told(&plain, &named(&one, &["1"])), "open\n");
 }
 
 #[test]
@@ -65,8 +110,9 @@ fn every_reply_and_no_other_page() {
     let rules = marked(1, &marked(2, &rules));
     let steps = steps(&sheet::write(&site), &sheet::write(&rules)).unwrap();
     let step = |site, rules, why| Step { site, rules, why };
-    let moves = |action, target, replies: &[(u16, usize)]| Why::Move {
+    let moves = |action: u16, target, replies: &[(u16, usize)]| Why::Move {
         action,
+        label: action.to_string(),
         target,
         replies: replies
             .iter()
@@ -92,12 +138,15 @@ fn every_reply_and_no_other_page() {
 }
 
 /// Holds every step to the flows: the site's move is there, the replies are
-/// all that the rules have, each is beaten by a later step; an end mark is
-/// there and not there; the pair is dropped; no pair is told twice, and none
-/// that no earlier step needs.
-fn is_right(site: &Lts, rules: &Lts, steps: &[Step]) {
-    let joined = compare::join(site, rules).unwrap();
-    let rounds = Rounds::of(&joined, &grid::end_start_of(&joined));
+/// all that the rules have by its name, each is beaten by a later step; an end
+/// mark is there and not there; the pair is dropped; no pair is told twice, and
+/// none that no earlier step needs.
+fn is_right(site: &LabelledLts, rules: &LabelledLts, steps: &[Step]) {
+    let joined = compare::join_labelled(site, rules).unwrap();
+    let joined = joined.lts();
+    let rounds = Rounds::of(joined, &grid::end_start_of(joined));
+    let place = |label: &String| rules.labels().iter().position(|own| own == label);
+    let (labels, site, rules) = (site.labels(), site.lts(), rules.lts());
     let pairs: Vec<(u16, u16)> = steps.iter().map(|step| (step.site, step.rules)).collect();
     assert_eq!(pairs.iter().collect::<HashSet<_>>().len(), pairs.len());
     let mut needed = HashSet::from([(0, 0)]);
@@ -109,9 +158,11 @@ fn is_right(site: &Lts, rules: &Lts, steps: &[Step]) {
             Why::EndMark => assert!(site.has_end_mark(p) && !rules.has_end_mark(q)),
             Why::Move {
                 action,
+                label,
                 target,
                 replies,
             } => {
+                assert_eq!(labels[usize::from(*action) - 1], *label);
                 let own = Transition {
                     source: p,
                     action: usize::from(*action),
@@ -119,8 +170,8 @@ fn is_right(site: &Lts, rules: &Lts, steps: &[Step]) {
                 };
                 assert!(site.has(own), "{steps:?}");
                 let pages = replies.iter().map(|reply| usize::from(reply.page));
-                let all = rules.replies(q, own.action).iter().map(|r| r.target);
-                assert!(pages.eq(all), "{steps:?}");
+                let all = place(label).map_or(&[][..], |at| rules.replies(q, at + 1));
+                assert!(pages.eq(all.iter().map(|r| r.target)), "{steps:?}");
                 for reply in replies {
                     assert!(reply.step > number, "{steps:?}");
                     assert_eq!(pairs[reply.step - 1], (*target, reply.page));
@@ -132,14 +183,15 @@ fn is_right(site: &Lts, rules: &Lts, steps: &[Step]) {
     assert_eq!(needed.len(), pairs.len());
 }
 
-/// Two flows of many shapes, unlike ones or with a few moves less.
-fn flows(rng: &mut Prng, sizes: Sizes) -> [Lts; 2] {
+/// Two flows of many shapes and of both kinds, unlike ones or with a few moves
+/// less.
+fn flows(rng: &mut Prng, sizes: Sizes) -> [LabelledLts; 2] {
     let site = flows::flow(rng, sizes);
-    if rng.chance(40) {
-        return [site, flows::flow(rng, sizes)];
-    }
-    let rules = random::fewer(rng, &site, 2);
-    [site, rules]
+    let rules = match rng.chance(40) {
+        true => flows::flow(rng, sizes),
+        false => random::fewer(rng, &site, 2),
+    };
+    flows::labelled(rng, [site, rules])
 }
 
 #[test]
@@ -152,9 +204,9 @@ fn stories_of_many_flows() {
     let (mut open, mut longest, mut most_replies) = (0, 0, 0);
     for _ in 0..6_000 {
         let [site, rules] = flows(&mut rng, sizes);
-        let sheets = [&site, &rules].map(|lts| random::shuffled_sheet(&mut rng, lts));
+        let sheets = [&site, &rules].map(|flow| random::shuffled_labelled(&mut rng, flow));
         let Ok((yes, _)) = compare::compare(&sheets[0], &sheets[1]) else {
-            continue; // Too many moves together.
+            continue; // Too many moves or names together.
         };
         let told = steps(&sheets[0], &sheets[1]);
         assert_eq!(told.is_none(), yes);
@@ -183,6 +235,7 @@ fn a_long_story() {
     let rules = Lts::of(127, 1, &path(127));
     let steps = steps(&sheet::write(&site), &sheet::write(&rules)).unwrap();
     assert_eq!(steps.len(), 127);
+    let [site, rules] = [site, rules].map(LabelledLts::plain);
     is_right(&site, &rules, &steps);
     // At the limits of pages and moves, with many replies.
     let mut rng = Prng::new(17);
@@ -192,6 +245,7 @@ fn a_long_story() {
         let rules = random::lts_exact(&mut rng, 128, 2, k, 30);
         let sheets = [&site, &rules].map(sheet::write);
         if let Some(steps) = self::steps(&sheets[0], &sheets[1]) {
+            let [site, rules] = [site, rules].map(LabelledLts::plain);
             is_right(&site, &rules, &steps);
         }
     }
@@ -204,13 +258,15 @@ fn entries_are_the_written_plan() {
     let mut closed = 0;
     for _ in 0..500 {
         let [site, rules] = flows(&mut rng, sizes);
-        let verdict = judge(&sheet::write(&site), &sheet::write(&rules), true).unwrap();
+        let sheets = [&site, &rules].map(sheet::write_labelled);
+        let verdict = judge(&sheets[0], &sheets[1], true).unwrap();
         let Verdict::Closed { reason, .. } = verdict else {
             continue;
         };
-        let joined = compare::join(&site, &rules).unwrap();
-        let rounds = Rounds::of(&joined, &grid::end_start_of(&joined));
-        let plan = rounds.strategy(&joined, 0, site.states()).unwrap();
+        let joined = compare::join_labelled(&site, &rules).unwrap();
+        let (labels, joined) = (joined.labels().to_vec(), joined.lts());
+        let rounds = Rounds::of(joined, &grid::end_start_of(joined));
+        let plan = rounds.strategy(joined, 0, site.lts().states()).unwrap();
         let entry = |e: &reference::plans::Entry| Entry {
             p: e.p,
             q: e.q,
@@ -218,7 +274,7 @@ fn entries_are_the_written_plan() {
             t: e.t,
         };
         let entries = plan.entries.iter().map(entry).collect();
-        assert_eq!(reason, Reason::Entries(entries));
+        assert_eq!(reason, Reason::Entries { labels, entries });
         closed += 1;
     }
     assert!(closed > 100, "{closed} are closed");
@@ -242,6 +298,22 @@ fn refusals_name_their_sheet() {
     );
     let large = sheet::write(&Lts::of(255, 0, &[]));
     assert_eq!(judge(&good, &large, false), refused(Refusal::Joined, None));
+    // A bad name, and too many of them together.
+    let mut bad = named(&Lts::of(1, 1, &[]), &["open"]);
+    bad[6] = b' ';
+    let (label, many) = (Refusal::Label, Refusal::TooManyLabels);
+    assert_eq!(
+        judge(&bad, &good[..5], false),
+        refused(label, Some(Sheet::First))
+    );
+    assert_eq!(
+        judge(&good, &bad, false),
+        refused(label, Some(Sheet::Second))
+    );
+    let other = named(&Lts::of(1, 1, &[]), &["open"]);
+    let most = sheet::write(&Lts::of(1, 64, &[]));
+    assert_eq!(judge(&most, &other, false), refused(many, None));
+    assert_eq!(judge(&other, &most, false), refused(many, None));
 }
 
 /// Where both sheets have such a record, the first's is told.
@@ -253,7 +325,6 @@ fn refusals_name_their_record() {
         sheet[at] = byte;
         sheet
     };
-    let told = |site: &[u8], rules: &[u8]| text::lines(&judge(site, rules, false).unwrap());
     let (second, third) = (with(18, 0), with(12, 0));
     let (twice, both) = (with(30, 2), with(12, 2));
     let lone = |record: u8, sheet: &str| {

@@ -23,7 +23,9 @@ fn why(reason: &Reason) -> String {
             .enumerate()
             .map(|(at, step)| told(at + 1, step))
             .collect(),
-        Reason::Entries(entries) => entries.iter().map(|entry| format!("{entry}\n")).collect(),
+        Reason::Entries { entries, .. } => {
+            entries.iter().map(|entry| format!("{entry}\n")).collect()
+        }
     }
 }
 
@@ -38,15 +40,16 @@ fn told(number: usize, step: &Step) -> String {
             )
         }
         Why::Move {
-            action,
+            label,
             target,
             replies,
+            ..
         } => {
-            text += &format!("the site moves {site} -{action}-> {target}; ");
+            text += &format!("the site moves {site} -{label}-> {target}; ");
             text += &match replies.is_empty() {
-                true => format!("the rules at page {rules} have no move {action}\n"),
+                true => format!("the rules at page {rules} have no move {label}\n"),
                 false => {
-                    format!("whatever the rules answer from page {rules} by action {action}:\n")
+                    format!("whatever the rules answer from page {rules} by action {label}:\n")
                 }
             };
             for reply in replies {

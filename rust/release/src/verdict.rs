@@ -13,7 +13,7 @@ pub enum Verdict {
     /// Compare's no, and why.
     Closed { turns: u16, reason: Reason },
     /// A refusal of compare, and the sheet that it is about. None for a
-    /// joined flow that is too large.
+    /// joined flow that is too large or has too many names.
     Refused {
         refusal: Refusal,
         sheet: Option<Sheet>,
@@ -25,8 +25,11 @@ pub enum Verdict {
 pub enum Reason {
     /// The plan, told as a game.
     Story(Vec<Step>),
-    /// The plan's entries.
-    Entries(Vec<Entry>),
+    /// The plan's entries, and the names of the joined flow's actions.
+    Entries {
+        labels: Vec<String>,
+        entries: Vec<Entry>,
+    },
 }
 
 /// One of the two sheets.
@@ -60,7 +63,10 @@ pub fn judge(site: &[u8], rules: &[u8], entries: bool) -> Result<Verdict, String
     }
     let plan = joined.plan()?;
     let reason = if entries {
-        Reason::Entries(plan)
+        Reason::Entries {
+            labels: joined.labels,
+            entries: plan,
+        }
     } else {
         Reason::Story(story::tell(&joined, &plan)?)
     };
@@ -74,7 +80,7 @@ fn refused(site: &[u8], rules: &[u8], refusal: Refusal) -> Result<Verdict, Strin
     let sheet = match (alone(site), alone(rules)) {
         (Some(own), _) if own == refusal => Some(Sheet::First),
         (None, Some(own)) if own == refusal => Some(Sheet::Second),
-        (None, None) if refusal == Refusal::Joined => None,
+        (None, None) if [Refusal::Joined, Refusal::TooManyLabels].contains(&refusal) => None,
         _ => return Err(format!("normalise does not confirm compare's '{refusal}'")),
     };
     Ok(Verdict::Refused { refusal, sheet })

@@ -4,6 +4,7 @@ mod json;
 
 use differential::{damage, flows};
 use json::Json;
+use reference::labels::{decimal, LabelledLts};
 use reference::lts::Lts;
 use reference::prng::Prng;
 use reference::refusal::Refusal;
@@ -96,7 +97,7 @@ fn twice_and_once() -> [Vec<u8>; 2] {
 }
 
 /// A refusal: its number, the record that it is about, and its sentence, which
-/// is document 01's, or document 02's for 5 and 16.
+/// is document 01's, or document 02's for 5 and from 16 on.
 #[derive(Clone, Copy)]
 struct Refused {
     number: usize,
@@ -120,6 +121,16 @@ impl Refused {
         record: None,
         sentence: "joined flow above 256 pages or 1,024 moves",
     };
+    const LABEL: Refused = Refused {
+        number: 17,
+        record: None,
+        sentence: "a bad or repeated name",
+    };
+    const TOO_MANY_LABELS: Refused = Refused {
+        number: 18,
+        record: None,
+        sentence: "more than 64 joined names",
+    };
 
     /// The line about one of the sheets, or about both.
     fn line(self, sheet: Option<&str>) -> String {
@@ -141,6 +152,12 @@ impl Refused {
     }
 }
 
+/// The named sheet of a flow.
+fn named(lts: &Lts, labels: &[&str]) -> Vec<u8> {
+    let labels = labels.iter().map(|label| label.to_string()).collect();
+    sheet::write_labelled(&LabelledLts::named(lts.clone(), labels))
+}
+
 /// A readable sheet.
 fn good_sheet() -> Vec<u8> {
     sheet::write(&Lts::of(2, 2, &[(0, 1, 1), (0, 2, 1), (1, 1, 0)]))
@@ -160,11 +177,14 @@ fn refused_sheets() -> Vec<(Vec<u8>, Refused)> {
         record,
         sentence,
     };
+    let mut twice = sheet::with_labels(&good, &decimal(2));
+    twice[6 + 16] = b'1';
     let page = "a page record: mark, spare byte or index";
     let record = "a move record: action, spare byte, target or next index";
     vec![
         (good[..31].to_vec(), Refused::LENGTH),
         (with(0, 0), Refused::COUNTS),
+        (twice, Refused::LABEL),
         (with(6, 2), refused(3, None, page)),
         (with(15, 1), refused(4, None, record)),
         (
@@ -223,14 +243,14 @@ fn closed() {
     let object = |rest: &str| format!("{{\"result\":\"closed\",\"turns\":{turns},{rest}}}\n");
     let steps = object(
         "\"steps\":[\
-        {\"step\":1,\"site\":0,\"rules\":0,\"why\":\"move\",\"action\":1,\"target\":1,\
-        \"replies\":[{\"page\":1,\"step\":2}]},\
-        {\"step\":2,\"site\":1,\"rules\":1,\"why\":\"move\",\"action\":1,\"target\":2,\
-        \"replies\":[]}]",
+        {\"step\":1,\"site\":0,\"rules\":0,\"why\":\"move\",\"action\":1,\"label\":\"1\",\
+        \"target\":1,\"replies\":[{\"page\":1,\"step\":2}]},\
+        {\"step\":2,\"site\":1,\"rules\":1,\"why\":\"move\",\"action\":1,\"label\":\"1\",\
+        \"target\":2,\"replies\":[]}]",
     );
     folder.run(&["--json"], &twice, &once).is(1, &steps);
     let entries = object(
-        "\"entries\":[[0,2,1,1],[0,4,1,1],[1,2,1,2],[1,4,1,2],[3,2,1,4],[3,4,1,4],[0,3,1,1]]",
+        "\"labels\":[\"1\"],\"entries\":[[0,2,1,1],[0,4,1,1],[1,2,1,2],[1,4,1,2],[3,2,1,4],[3,4,1,4],[0,3,1,1]]",
     );
     for options in [["--json", "--entries"], ["--entries", "--json"]] {
         folder.run(&options, &twice, &once).is(1, &entries);
@@ -238,6 +258,30 @@ fn closed() {
     folder
         .on(&["site", "--json", "rules", "--entries"])
         .is(1, &entries);
+}
+
+/// Names in the text and, escaped, in the object, beside the numbers of the
+/// joined flow.
+#[test]
+fn names() {
+    let folder = Folder::new("labels");
+    let site = named(&Lts::of(2, 2, &[(0, 2, 1)]), &["a", "\"\\<-"]);
+    let rules = named(&Lts::of(1, 2, &[(0, 1, 0)]), &["b", "\"\\<-"]);
+    let story = "closed\nstep 1 (site at page 0, rules at page 0): \
+        the site moves 0 -\"\\<--> 1; the rules at page 0 have no move \"\\<-\n";
+    folder.run(&[], &site, &rules).is(1, story);
+    let (_, turns) = compare::compare(&site, &rules).unwrap();
+    let object = |rest: &str| format!("{{\"result\":\"closed\",\"turns\":{turns},{rest}}}\n");
+    let steps = object(
+        r#""steps":[{"step":1,"site":0,"rules":0,"why":"move","action":2,"label":"\"\\<-","target":1,"replies":[]}]"#,
+    );
+    folder.run(&["--json"], &site, &rules).is(1, &steps);
+    let entries = object(r#""labels":["a","\"\\<-","b"],"entries":[[0,2,2,1]]"#);
+    let run = folder.run(&["--json", "--entries"], &site, &rules);
+    run.is(1, &entries);
+    folder
+        .run(&["--entries"], &site, &rules)
+        .is(1, "closed\n(0,2,2,1)\n");
 }
 
 #[test]
@@ -264,6 +308,10 @@ fn each_refusal() {
     let large = sheet::write(&Lts::of(255, 0, &[]));
     refused(&good, &large, Refused::JOINED, None);
     refused(&large, &good, Refused::JOINED, None);
+    let most = sheet::write(&Lts::of(1, 64, &[]));
+    let other = named(&Lts::of(1, 1, &[]), &["a"]);
+    refused(&most, &other, Refused::TOO_MANY_LABELS, None);
+    refused(&other, &most, Refused::TOO_MANY_LABELS, None);
 }
 
 /// The whole object of a refusal, with a record and without.
@@ -289,14 +337,26 @@ fn the_object_of_a_refusal() {
 #[test]
 fn a_file_above_the_longest_sheet() {
     let folder = Folder::new("long");
-    for (first, refusal) in [(1, Refused::LENGTH), (0, Refused::COUNTS)] {
+    for (first, refusal) in [
+        ([1, 0], Refused::LENGTH),
+        ([1, 128], Refused::LENGTH),
+        ([0, 128], Refused::COUNTS),
+    ] {
         let mut long = vec![0; 100_000];
-        long[0] = first;
+        long[..2].copy_from_slice(&first);
         let number = sheet::read(&long).unwrap_err().number;
         assert_eq!(usize::from(number), refusal.number);
         let line = refusal.line(Some("second"));
         folder.run(&[], &good_sheet(), &long).is(2, &line);
     }
+    // One byte more than the longest sheet; that itself is read.
+    let lts = random::lts_exact(&mut Prng::new(19), 256, 64, 1_024, 10);
+    let mut longest = sheet::with_labels(&sheet::write(&lts), &decimal(64));
+    let line = Refused::JOINED.line(None);
+    folder.run(&[], &good_sheet(), &longest).is(2, &line);
+    longest.push(0);
+    let line = Refused::LENGTH.line(Some("second"));
+    folder.run(&[], &good_sheet(), &longest).is(2, &line);
 }
 
 #[test]
@@ -394,7 +454,8 @@ fn pairs_of_all_kinds() {
         } else {
             flows::flow(rng, sizes)
         };
-        let sheets = [&site, &rules].map(|lts| damage::sheet(rng, lts, 15));
+        let flows = flows::labelled(rng, [site, rules]);
+        let sheets = flows.map(|flow| damage::sheet(rng, &flow, 15));
         let text = folder.run(&[], &sheets[0], &sheets[1]);
         let object = folder.run(&["--json"], &sheets[0], &sheets[1]);
         assert_eq!(text.status, object.status);
@@ -429,10 +490,22 @@ fn agree(sheets: &[Vec<u8>; 2], text: &Run, object: &Json) {
             assert_eq!((text.out.lines().next(), result), (Some(word), word));
             assert_eq!(object.field("turns").number(), turns);
             if !yes {
-                let steps: String = object.field("steps").array().iter().map(told).collect();
-                assert_eq!(text.out, format!("closed\n{steps}"));
+                let steps = object.field("steps").array();
+                let lines: String = steps.iter().map(told).collect();
+                assert_eq!(text.out, format!("closed\n{lines}"));
+                let labels = sheets.each_ref().map(|sheet| sheet::labels(sheet).unwrap());
+                let labels = compare::joined_labels(&labels[0], &labels[1]);
+                steps.iter().for_each(|step| is_named(step, &labels));
             }
         }
+    }
+}
+
+/// An object's step has its action's number and name.
+fn is_named(step: &Json, labels: &[String]) {
+    if step.field("why").string() == "move" {
+        let action = step.field("action").number();
+        assert_eq!(step.field("label").string(), labels[action - 1]);
     }
 }
 
@@ -450,18 +523,18 @@ fn told(step: &Json) -> String {
         );
     }
     assert_eq!(step.field("why").string(), "move");
-    let (action, target) = (number("action"), number("target"));
-    let begin = format!("{begin}the site moves {site} -{action}-> {target}; ");
+    let (label, target) = (step.field("label").string(), number("target"));
+    let begin = format!("{begin}the site moves {site} -{label}-> {target}; ");
     let replies = step.field("replies").array();
     if replies.is_empty() {
-        return format!("{begin}the rules at page {rules} have no move {action}\n");
+        return format!("{begin}the rules at page {rules} have no move {label}\n");
     }
     let reply = |reply: &Json| {
         let (page, step) = (reply.field("page").number(), reply.field("step").number());
         format!("  page {page}: see step {step}\n")
     };
     let replies: String = replies.iter().map(reply).collect();
-    format!("{begin}whatever the rules answer from page {rules} by action {action}:\n{replies}")
+    format!("{begin}whatever the rules answer from page {rules} by action {label}:\n{replies}")
 }
 
 /// The example's sheets are the flows that its page describes, and the page
@@ -475,27 +548,44 @@ fn the_example() {
     };
     let site = [(0, 1, 1), (1, 2, 2), (2, 3, 4), (2, 4, 3), (3, 3, 4)];
     let rules = [
-        (0, 1, 1),
-        (0, 1, 2),
-        (1, 2, 3),
-        (2, 2, 4),
-        (3, 3, 6),
-        (3, 4, 5),
-        (4, 3, 0),
-        (5, 5, 3),
+        (0, 4, 1),
+        (0, 4, 2),
+        (1, 1, 3),
+        (2, 1, 4),
+        (3, 2, 5),
+        (3, 5, 6),
+        (4, 5, 0),
+        (5, 3, 3),
     ];
-    let site = sheet::write(&marked(4, Lts::of(5, 4, &site)));
-    let rules = sheet::write(&marked(6, Lts::of(7, 5, &rules)));
+    let [site, rules] = [
+        marked(4, Lts::of(5, 4, &site)),
+        marked(6, Lts::of(7, 5, &rules)),
+    ];
+    let by_number = [&site, &rules].map(sheet::write);
+    let names = ["sign-in", "open-book", "sign-out", "sell-bird"];
+    let site = named(&site, &names);
+    let names = [
+        "open-book",
+        "sell-bird",
+        "countersign",
+        "sign-in",
+        "sign-out",
+    ];
+    let rules = named(&rules, &names);
     assert_eq!(read("site.sheet"), site);
     assert_eq!(read("rules.sheet"), rules);
     // Record 3 names record 4 in the site's sheet, and none in the draft.
-    let next = sheet::length(5, 3) - 2;
+    let next = sheet::named_length(5, 4, 3) - 2;
     assert_eq!(site[next..next + 2], [4, 0]);
     let draft = [&site[..next], &[0, 0], &site[next + 2..]].concat();
     assert_eq!(read("draft.sheet"), draft);
     shown(&["site.sheet", "rules.sheet"], 1);
     shown(&["draft.sheet", "rules.sheet"], 2);
     shown(&["--json", "draft.sheet", "rules.sheet"], 2);
+    let run = Folder::new("example").run(&[], &by_number[0], &by_number[1]);
+    let story = "closed\nstep 1 (site at page 0, rules at page 0): \
+        the site moves 0 -1-> 1; the rules at page 0 have no move 1\n";
+    run.is(1, story);
 }
 
 /// Ends with this status, and prints what the examples' page shows.

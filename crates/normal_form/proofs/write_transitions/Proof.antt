@@ -6,6 +6,7 @@ use native.Mathlib.Omega.{arith}
 use denote.Ref.{now}
 use lib.ListN.{length}
 use lib.Seq.{sets}
+use Rattle.encoding.specs.Records.{labelsLength}
 use Rattle.transitions.specs.Table.{countOf}
 use Rattle.normal_form.specs.Normal.{transitionsBytes}
 use Rattle.normal_form.specs.Written.{transitionsFrom}
@@ -19,7 +20,8 @@ sub-back i = omega arith
 
 abbrev Inv-loop : tie.InvT-loop
 Inv-loop out₀ h table k i₀ out i = (i ≤ k) × (length out ≡ length out₀)
-    × (sets out (6 + 4 * h .states + 6 * i) (transitionsBytes (i + 1) (transitionsFrom table i)) ≡ sets out₀ (6 + 4 * h .states) (transitionsBytes 1 (transitionsFrom table 0)))
+    × (sets out (6 + labelsLength h + 4 * h .states + 6 * i) (transitionsBytes (i + 1) (transitionsFrom table i))
+    ≡ sets out₀ (6 + labelsLength h + 4 * h .states) (transitionsBytes 1 (transitionsFrom table 0)))
 
 abbrev μ-loop : tie.MeasureT-loop
 μ-loop out₀ h table k i₀ out i = k - i

@@ -1,34 +1,31 @@
 -- `transitions::load_both` meets its contract: the states of the first, then those of the second, and the counts. Assumes nothing.
-use Prim.Native.Nat.{ℕ, _+_, _≤_, _<_, max}
+use Prim.Native.Nat.{ℕ, _≤_}
 use mathlib.Core.Path.{_≡_}
 use mathlib.Core.List.{List}
 use native.Mathlib.Omega.{arith}
-use lib.ListN.{replicate}
+use lib.ListN.{getD, replicate}
 use denote.Ref.{now}
 use Rattle.lts.specs.System.{Lts}
 use Rattle.lts.specs.Union.{disjointUnion}
+use Rattle.lts.specs.Mapped.{mapped}
 use Rattle.encoding.specs.declared.Header.{Header}
 use Rattle.encoding.specs.Denotation.{ltsOf}
-use Rattle.transitions.specs.Table.{offsetAt, Holds}
 use Rattle.transitions.specs.Maps.{Raises}
-use Rattle.transitions.specs.Filling.{withCounts}
 use Rattle.transitions.specs.Loading.{Images, Loading}
-use Rattle.transitions.proofs.Loading.{both-start, first-images, both-middle, second-images, both-filled}
+use Rattle.transitions.proofs.Links.{Keeps, raises-keeps}
+use Rattle.transitions.proofs.Loading.{Both, both-start, first-images, both-middle, second-images, both-filled}
 use borrow.Author.Needs.{needs}
 use Rattle.transitions.proofs.load_both.Statement.{statement}
 use Rattle.transitions.proofs.load_both.Tie as tie
 use Rattle.transitions.proofs.load_both.Reads as reads
 use Rattle.transitions.proofs.load_both.Lts as lts
-use Rattle.transitions.proofs.larger.Reads as larger-reads
 use Rattle.transitions.proofs.load_rows.Reads as load-rows-reads
 use Rattle.transitions.proofs.offset.Reads as offset-reads
 use Rattle.transitions.proofs.put_counts.Reads as put-counts-reads
 use Rattle.transitions.proofs.raised.Reads as raised-reads
+use Rattle.transitions.proofs.same_actions.Reads as same-actions-reads
 
--- the joined flow, and how far it is loaded
-abbrev U : tie.Start → Lts
-U c = disjointUnion (ltsOf (now (c .args .first))) (ltsOf (now (c .args .second)))
-
+-- what is asked of the two sheets; the joined flow, and how far it is loaded
 module _ (c : tie.Start) where
   abbrev h : Header
   h = c .args .h
@@ -36,71 +33,91 @@ module _ (c : tie.Start) where
   abbrev g : Header
   g = c .args .g
 
-  module _ {maps : List ℕ} (r : Raises (h .states) (h .actions) 0 maps) where
-    begun : {m : ℕ} → m ≡ max (h .actions) (g .actions) → Loading (U c) (now (c .args .first)) h maps m 0 (replicate 3588 0)
-    begun e = both-start _ _ h g (c .pre .0 .0) (c .pre .0 .1) (c .pre .1 .0) (c .pre .1 .1) r e
+  abbrev both : Both (now (c .args .first)) (now (c .args .second)) h g (now (c .args .to)) (c .args .m)
+  both = record {
+    first = c .pre .0 .0;
+    second = c .pre .0 .1;
+    room = c .pre .1 .0 .0;
+    space = c .pre .1 .0 .1;
+    own = c .pre .1 .1 .0;
+    labels = c .pre .1 .1 .1;
+    sent = c .pre .1 .1 .2;
+  }
 
-    own : Images (U c) (now (c .args .first)) maps 0 (h .states)
-    own = first-images _ _ h g (c .pre .0 .0) (c .pre .0 .1) (c .pre .1 .0) (c .pre .1 .1) r
+  abbrev U : Lts
+  U =
+      disjointUnion (ltsOf (now (c .args .first)))
+      (mapped (g .states) (c .args .m) (λ p. p) (λ b. getD (now (c .args .to)) b 0) (ltsOf (now (c .args .second))))
 
-  module _ {maps : List ℕ} (r : Raises (g .states) (g .actions) (h .states) maps) where
-    behind : Images (U c) (now (c .args .second)) maps (h .states) (h .states + g .states)
-    behind = second-images _ _ h g (c .pre .0 .0) (c .pre .0 .1) (c .pre .1 .0) (c .pre .1 .1) r
+  -- the first's numbers are as they are
+  keeps : {same own : List ℕ} → Raises (h .states) (h .actions) 0 same own → ((a : ℕ) → 1 ≤ a → a ≤ c .args .m → getD same a 0 ≡ a)
+      → Keeps (h .states) (h .actions) own
+  keeps r e = raises-keeps r (λ a l k. e a l (omega (arith, k, both .own)))
 
-    turned : {m : ℕ} {old t : List ℕ} → Loading (U c) (now (c .args .first)) h old m (h .states) t → Loading (U c) (now (c .args .second)) g maps m (h .states) t
-    turned f = both-middle _ _ h g (c .pre .0 .0) (c .pre .0 .1) (c .pre .1 .0) (c .pre .1 .1) r f
-
-    done : {m : ℕ} {t : List ℕ} → Loading (U c) (now (c .args .second)) g maps m (h .states + g .states) t
-        → Holds (U c) (withCounts t (h .states + g .states) m (offsetAt t (h .states + g .states)))
-    done f = both-filled _ _ h g (c .pre .0 .0) (c .pre .0 .1) (c .pre .1 .0) (c .pre .1 .1) r f
-
-larger-requires : tie.Need-larger-requires
-larger-requires c κs = search needs
+  -- after the first's states
+  half : {own t : List ℕ} → Keeps (h .states) (h .actions) own
+      → ((L : Lts) → Loading L (now (c .args .first)) h own (c .args .m) 0 (replicate 3588 0) → Images L (now (c .args .first)) own 0 (h .states)
+      → Loading L (now (c .args .first)) h own (c .args .m) (h .states) t)
+      → Loading U (now (c .args .first)) h own (c .args .m) (h .states) t
+  half r next = next U (both-start both r) (first-images both r)
 
 add-n : tie.Need-add-n
 add-n c = search needs
+
+same-actions-requires : tie.Need-same-actions-requires
+same-actions-requires c κs = search needs
 
 raised-requires : tie.Need-raised-requires
 raised-requires c κs = search needs
 
 load-rows-requires : tie.Need-load-rows-requires
 load-rows-requires c κs =
-    let start = c .before .before .before .before .before .before .before .before in
-    (search needs, (U start, begun start (c .before .before .raised .ensures) (c .before .before .before .before .before .larger .ensures), own start (c .before .before .raised .ensures)))
+    let d = c .before .before in
+    let start = d .before .before .before .before .before .before .before in
+    let own = keeps start (d .raised .ensures) (d .before .before .same-actions .ensures) in
+    (search needs, (U start, both-start (both start) own, first-images (both start) own))
 
 raised-requires-2 : tie.Need-raised-requires-2
 raised-requires-2 c κs = search needs
 
 load-rows-requires-2 : tie.Need-load-rows-requires-2
 load-rows-requires-2 c κs =
-    let start = c .before .before .before .before .before .before .before .before .before .before .before .before in
     let d = c .before .before in
-    (search needs, (U start, turned start (d .raised2 .ensures) (d .before .load-rows .ensures (U start) (begun start (d .before .before .before .before .raised .ensures) (d .before .before .before .before .before .before .before .larger .ensures)) (own start (d .before .before .before .before .raised .ensures))), behind start (d .raised2 .ensures)))
+    let b = d .before .before .before .before in
+    let start = b .before .before .before .before .before .before .before in
+    let own = keeps start (b .raised .ensures) (b .before .before .same-actions .ensures) in
+    let behind = d .raised2 .ensures in
+    (search needs, (U start, both-middle (both start) behind (half start own (d .before .load-rows .ensures)), second-images (both start) behind))
 
 offset-requires : tie.Need-offset-requires
-offset-requires c κs = search needs
+offset-requires c κs =
+    let d = c .before .before .before .before in
+    let start = d .before .before .before .before .before .before .before .before .before .before .before in
+    omega (arith, both start .room)
 
 put-counts-requires : tie.Need-put-counts-requires
 put-counts-requires c κs =
     let d = c .before .before .before .before .before .before in
-    let start = d .before .before .before .before .before .before .before .before .before .before in
-    let f = turned start (d .raised2 .ensures) (d .before .load-rows .ensures (U start) (begun start (d .before .before .before .before .raised .ensures) (d .before .before .before .before .before .before .before .larger .ensures)) (own start (d .before .before .before .before .raised .ensures))) in
-    (omega (arith, start .pre .1 .0), omega (arith, f .labels), omega (arith, c .before .offset .ensures .1))
+    let start = d .before .before .before .before .before .before .before .before .before .before .before in
+    (omega (arith, both start .room), omega (arith, both start .labels), omega (arith, c .before .offset .ensures .1))
 
 returns : tie.Need-returns
 returns c =
     let d = c .before .before .before .before .before .before .before in
-    let start = d .before .before .before .before .before .before .before .before .before .before in
-    let f = turned start (d .raised2 .ensures) (d .before .load-rows .ensures (U start) (begun start (d .before .before .before .before .raised .ensures) (d .before .before .before .before .before .before .before .larger .ensures)) (own start (d .before .before .before .before .raised .ensures))) in
+    let b = d .before .before .before .before in
+    let start = b .before .before .before .before .before .before .before in
+    let own = keeps start (b .raised .ensures) (b .before .before .same-actions .ensures) in
+    let behind = d .raised2 .ensures in
+    let f = both-middle (both start) behind (half start own (d .before .load-rows .ensures)) in
     rw (c .put-counts .ensures, c .before .before .offset .ensures .0)
-    (done start (d .raised2 .ensures) (c .before .before .before .before .load-rows2 .ensures (U start) f (behind start (d .raised2 .ensures))))
+    (both-filled (both start) behind (c .before .before .before .before .load-rows2 .ensures (U start) f (second-images (both start) behind)))
 
 pub load-both-spec : {M : Type 1} → statement M
 load-both-spec =
     tie.close
     (tie.spec
-    larger-requires
     add-n
+    same-actions-requires
     raised-requires
     load-rows-requires
     raised-requires-2

@@ -1,6 +1,7 @@
 -- `transitions::raise_states` meets its contract: state by state. Assumes nothing.
 use Prim.Native.Nat.{ℕ, _-_, _≤_, _<_}
 use mathlib.Core.Path.{_≡_, subst}
+use mathlib.Core.List.{List}
 use native.Mathlib.Omega.{arith}
 use Rattle.transitions.specs.Maps.{Raises}
 use Rattle.transitions.proofs.Links.{raises-start, raises-state}
@@ -11,13 +12,13 @@ use Rattle.transitions.proofs.raise_states.Reads as reads
 use Rattle.transitions.proofs.raise_states.Lts as lts
 
 abbrev Inv-loop : tie.InvT-loop
-Inv-loop maps₀ n shift p₀ maps p = (p ≤ n) × Raises p 0 shift maps
+Inv-loop maps₀ n shift p₀ maps p = (p ≤ n) × ((to : List ℕ) → Raises p 0 shift to maps)
 
 abbrev μ-loop : tie.MeasureT-loop
 μ-loop maps₀ n shift p₀ maps p = n - p
 
 loop-holds : tie.Need-loop-holds Inv-loop μ-loop
-loop-holds c = (search needs, raises-start (c .pre .0))
+loop-holds c = (search needs, λ to. raises-start (c .pre .0))
 
 add-maps : tie.Need-add-maps Inv-loop μ-loop
 add-maps c = search needs
@@ -29,7 +30,7 @@ mul-maps : tie.Need-mul-maps Inv-loop μ-loop
 mul-maps c = search needs
 
 element-write-maps : tie.Need-element-write-maps Inv-loop μ-loop
-element-write-maps c = let r = c .before .loop .inv .1 in omega (arith, r .long, c .loop-test .taken, c .before .before .pre .1)
+element-write-maps c = let r = c .before .loop .inv .1 (c .before .loop .maps) in omega (arith, r .long, c .loop-test .taken, c .before .before .pre .1)
 
 add-p : tie.Need-add-p Inv-loop μ-loop
 add-p c = search needs
@@ -38,10 +39,16 @@ loop-less : tie.Need-loop-less Inv-loop μ-loop
 loop-less c = search needs
 
 loop-again : tie.Need-loop-again Inv-loop μ-loop
-loop-again c = let l = c .before .loop in (search needs, raises-state (l .p) (omega (arith, c .loop-test .taken, c .before .before .pre .1)) (l .inv .1))
+loop-again c =
+    let l = c .before .loop in
+    let low : l .p < 256 = omega (arith, c .loop-test .taken, c .before .before .pre .1) in
+    (search needs, λ to. raises-state (l .p) low (l .inv .1 to))
 
 returns : tie.Need-returns Inv-loop μ-loop
-returns c = let l = c .before .loop in subst (λ (q : ℕ). Raises q 0 (c .before .before .args .shift) (l .maps)) (omega (arith, l .inv .0, c .loop-test .left)) (l .inv .1)
+returns c =
+    let l = c .before .loop in
+    let end : l .p ≡ c .before .before .args .n = omega (arith, l .inv .0, c .loop-test .left) in
+    λ to. subst (λ (q : ℕ). Raises q 0 (c .before .before .args .shift) to (l .maps)) end (l .inv .1 to)
 
 pub raise-states-spec : {M : Type 1} → statement M
 raise-states-spec =

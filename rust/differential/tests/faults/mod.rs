@@ -1,7 +1,9 @@
 //! Sheets with a fault in their chains, and what they are refused with, both
 //! written by hand.
 
+use reference::labels::decimal;
 use reference::refusal::Refusal;
+use reference::sheet::with_labels;
 
 /// A sheet and its refusal.
 pub struct Fault {
@@ -91,17 +93,19 @@ pub fn all() -> Vec<Fault> {
     small.chain(largest()).collect()
 }
 
-/// The sheet with records that differ in action or target, and with records
-/// that are all the same: refusal 6 comes after 5 and 16.
+/// The sheet with records that differ in action or target, plain and named, and
+/// with records that are all the same: refusal 6 comes after 5 and 16.
 fn faults(
     about: &'static str,
     firsts: &[usize],
     nexts: &[usize],
     (number, record): (u8, u16),
-) -> [Fault; 2] {
-    [true, false].map(|different| Fault {
+) -> [Fault; 3] {
+    let plain = sheet(firsts, nexts, true);
+    let named = with_labels(&plain, &decimal(64));
+    [plain, named, sheet(firsts, nexts, false)].map(|sheet| Fault {
         about,
-        sheet: sheet(firsts, nexts, different),
+        sheet,
         refusal: Refusal { number, record },
     })
 }

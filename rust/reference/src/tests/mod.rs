@@ -3,6 +3,7 @@
 mod chains;
 mod document;
 mod join;
+mod names;
 mod properties;
 mod sheets;
 

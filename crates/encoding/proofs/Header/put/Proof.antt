@@ -4,6 +4,9 @@ use borrow.Author.Needs.{needs}
 use Rattle.encoding.proofs.Header.put.Statement.{statement}
 use Rattle.encoding.proofs.Header.put.Tie as tie
 
+first-requires : tie.Need-first-requires
+first-requires c κs = search needs
+
 put-two-requires : tie.Need-put-two-requires
 put-two-requires c κs = search needs
 
@@ -18,8 +21,11 @@ same-length c = search needs
 
 returns : tie.Need-returns
 unfolding headerBytes two
-returns c = rw (c .before .before .put-two3 .ensures, c .before .before .before .before .before .before .put-two2 .ensures, c .before .before .before .before .before .before .before .before .before .before .put-two .ensures)
+returns c =
+    let b = c .before .before .before .before .before .before in
+    let a = b .before .before .before .before in
+    rw (c .before .before .put-two3 .ensures, b .put-two2 .ensures, a .put-two .ensures, a .before .first .ensures)
 
 pub put-spec : {M : Type 1} → statement M
 put-spec =
-    tie.close (tie.spec put-two-requires put-two-requires-2 put-two-requires-3 same-length returns)
+    tie.close (tie.spec first-requires put-two-requires put-two-requires-2 put-two-requires-3 same-length returns)

@@ -41,13 +41,19 @@ pub fn f9() -> Vec<u8> {
     with_byte(&f3(), 22, 1)
 }
 
-/// One sheet for each refusal of a sheet, in their order: 1 to 5, 16 and 6,
-/// with n = 3 where it can be.
+/// F3 with a label for its action.
+pub fn named_f3() -> Vec<u8> {
+    sheet::with_labels(&f3(), &["open-flock".to_string()])
+}
+
+/// One sheet for each refusal of a sheet, in their order: 1, 2, 17, 3 to 5, 16
+/// and 6, with n = 3 where it can be.
 pub fn refused_sheets() -> Vec<Vec<u8>> {
     let twice = RawSheet::of(1, &[1, 0, 0], &[(1, 1, 2), (1, 1, 0)]);
     vec![
         f8(),
         f7(),
+        with_byte(&named_f3(), 10, b' '),
         with_byte(&f3(), 7, 1),
         with_byte(&f3(), 19, 1),
         with_byte(&f3(), 16, 0), // page 2 without its record, which is 2

@@ -1,0 +1,24 @@
+-- `encoding::LabelRecord::decimal` meets its contract: the digits are written into zeros.
+use mathlib.Core.Path.{_∙_}
+use Rattle.encoding.specs.Labels.{decimalLabel}
+use Rattle.encoding.proofs.Labels.{padded-written, decimal-short}
+use borrow.Author.Needs.{needs}
+use Rattle.encoding.proofs.LabelRecord.decimal.Statement.{statement}
+use Rattle.encoding.proofs.LabelRecord.decimal.Tie as tie
+
+slice-aggregate-put-decimal : tie.Need-slice-aggregate-put-decimal
+slice-aggregate-put-decimal c = search needs
+
+put-decimal-requires : tie.Need-put-decimal-requires
+put-decimal-requires c κs = search needs
+
+new-requires : tie.Need-new-requires
+new-requires c κs = search needs
+
+returns : tie.Need-returns
+unfolding decimalLabel
+returns c = rw (c .new .ensures) (c .before .before .put-decimal .ensures .1 ∙ padded-written _ (decimal-short _ (c .before .before .before .before .pre)))
+
+pub decimal-spec : {M : Type 1} → statement M
+decimal-spec =
+    tie.close (tie.spec slice-aggregate-put-decimal put-decimal-requires new-requires returns)

@@ -1,0 +1,4 @@
+pub mod Index
+pub mod Labels
+pub mod Maps
+pub mod Bytes

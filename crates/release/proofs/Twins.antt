@@ -1,0 +1,160 @@
+-- A plain sheet and the named sheet with decimal names of the same records: every call but normalise and join gives the same reply and the
+-- same buffers for both (document 02, L2). The text of flowcheck is in `listing/proofs/Twins.antt`.
+use Prim.Native.Nat.{ℕ, _*_, _/_}
+use mathlib.Core.Path.{_≡_, refl, sym, ap, ap₂, _∙_}
+use mathlib.Core.Logic.{⊎-elim}
+use mathlib.Core.Bool.{cond, _&&_}
+use mathlib.Core.List.{List, [], _∷_, _++_}
+use lib.Dec.{eqb, leb}
+use lib.ListN.{length, drop}
+use Rattle.lts.specs.declared.Entry.{Entry}
+use Rattle.lts.specs.declared.Refusal.the-variants.{Grid, StillRelated, Unsound, Buffer}
+use Rattle.lts.specs.System.{Lts, terminationPreorder}
+use Rattle.lts.specs.Rounds.{refutationRound}
+use Rattle.lts.specs.Strategy.{accepted, strategyLength, strategy}
+use Rattle.lts.specs.Game.{challengerWins}
+use Rattle.lts.specs.Union.{comparison, simulated}
+use Rattle.lts.specs.Labels.{joinedSecond}
+use Rattle.lts.specs.Rule.{_otherwise_, broken, Reply, refused, given}
+use Rattle.lts.proofs.Rule.{refuses, passes, finding}
+use Rattle.rows.specs.Rows.{rowWords}
+use Rattle.relation.specs.Matrix.{relationOf, matrixOf}
+use Rattle.relation.specs.Check.{isMatrix}
+use Rattle.encoding.specs.Records.{headerOf}
+use Rattle.encoding.specs.Labels.{labelsOf}
+use Rattle.encoding.specs.declared.Reading.the-variants.{Readable, Refused}
+use Rattle.encoding.specs.Encoding.{sheetRules, readEncoding}
+use Rattle.encoding.specs.Read.{readingReply}
+use Rattle.encoding.specs.Denotation.{ltsOf}
+use Rattle.encoding.proofs.Twins.{Twins, twin-lts, twin-labels, twin-broken}
+use Rattle.inputs.specs.Inputs.{inputRules, pairRules}
+use Rattle.inputs.specs.Both.{bothRules}
+use Rattle.inputs.proofs.Twins.{append-same, checked-same, inputs-same, pair-same, first-same, second-same}
+use Rattle.simulation.specs.Calls.{TerminationOutcome, terminationRules, terminationCall, isInside, simulationRules, simulationCall}
+use Rattle.game.specs.Play.{playRules, playCall}
+use Rattle.coarsest.specs.Call.{CoarsestOutcome, coarsestRules, refined, coarsestCall}
+use Rattle.carry.specs.Carried.{listOf, bytesOf}
+use Rattle.carry.specs.Bytes.{wordsOf, stateNumbers}
+use Rattle.coarsest_bytes.specs.Call.{carriedBack, coarsestOnBytes}
+use Rattle.strategy.specs.Check.{checkRules, checkCall}
+use Rattle.strategy.specs.Write.{WriteOutcome, writeRules, writeCall}
+use Rattle.comparison.specs.Call.{compareCall}
+use Rattle.release.specs.EndStart.{endStartOnBytes}
+
+module _ {s t : List ℕ} (w : Twins s t) where
+  -- what is computed from the number of states and the flow is the same
+  both : {A : Type 0} (f : ℕ → Lts → A) → f (headerOf s .states) (ltsOf s) ≡ f (headerOf t .states) (ltsOf t)
+  both f = ap₂ f (w .states) (twin-lts w)
+
+  -- ## Read
+  pub read-same : readingReply (readEncoding s) ≡ readingReply (readEncoding t)
+  unfolding readEncoding readingReply
+  read-same = ⊎-elim
+      (λ k.
+      ap readingReply (passes (sheetRules s) Refused (Readable (headerOf s)) k)
+      ∙ counts
+      ∙ sym (ap readingReply (passes (sheetRules t) Refused (Readable (headerOf t)) (sym (twin-broken w) ∙ k))))
+      (λ q.
+      ap readingReply (refuses (sheetRules s) Refused (Readable (headerOf s)) (q .1))
+      ∙ sym (ap readingReply (refuses (sheetRules t) Refused (Readable (headerOf t)) (sym (twin-broken w) ∙ q .1))))
+      (finding (sheetRules s))
+    where
+      counts : given (headerOf s .states ∷ headerOf s .actions ∷ headerOf s .transitions ∷ [])
+          ≡ given (headerOf t .states ∷ headerOf t .actions ∷ headerOf t .transitions ∷ [])
+      counts = λ i. given (w .states i ∷ w .actions i ∷ w .transitions i ∷ [])
+
+  -- ## End start, on words and on bytes
+  end-rules : (grid : List ℕ) → broken (terminationRules s grid) ≡ broken (terminationRules t grid)
+  unfolding terminationRules
+  end-rules grid = append-same (sheetRules s) (sheetRules t) _ _ (twin-broken w)
+      (ap (λ (n : ℕ). broken (eqb (length grid) (n * rowWords n) otherwise Buffer ∷ [])) (w .states))
+
+  pub end-start-same : (grid : List ℕ) → terminationCall s grid ≡ terminationCall t grid
+  unfolding terminationCall
+  end-start-same grid = checked-same (terminationRules s grid) (terminationRules t grid) (λ r. record { reply = refused r; grid = grid }) (end-rules grid)
+      (both {A = TerminationOutcome} (λ n L. record { reply = given []; grid = matrixOf n (terminationPreorder L) }))
+
+  pub end-start-bytes-same : (grid : List ℕ) → endStartOnBytes s grid ≡ endStartOnBytes t grid
+  unfolding endStartOnBytes
+  end-start-bytes-same grid =
+      checked-same (terminationRules s (wordsOf grid)) (terminationRules t (wordsOf grid)) (λ r. record { reply = refused r; grid = grid }) (end-rules (wordsOf grid))
+      (both {A = TerminationOutcome} (λ n L. record { reply = given []; grid = bytesOf 8 (matrixOf n (terminationPreorder L)) }))
+
+  -- ## Test simulation
+  pub simulation-same : (start claim : List ℕ) → simulationCall s start claim ≡ simulationCall t start claim
+  unfolding simulationCall simulationRules
+  simulation-same start claim =
+      checked-same (simulationRules s start claim) (simulationRules t start claim) refused
+      (append-same (inputRules s start) (inputRules t start) _ _ (inputs-same w start)
+      (ap (λ (n : ℕ). broken (isMatrix n claim otherwise Grid ∷ [])) (w .states)))
+      (both {A = Reply} (λ n L. given (cond (isInside L (relationOf n start) (relationOf n claim)) 1 0 ∷ [])))
+
+  -- ## Coarsest, on words and on bytes
+  coarsest-rules : (start grid representatives : List ℕ) → broken (coarsestRules s start grid representatives) ≡ broken (coarsestRules t start grid representatives)
+  unfolding coarsestRules
+  coarsest-rules start grid representatives = append-same (inputRules s start) (inputRules t start) _ _ (inputs-same w start)
+      (ap (λ (n : ℕ). broken ((eqb (length grid) (n * rowWords n) && eqb (length representatives) n) otherwise Buffer ∷ [])) (w .states))
+
+  pub coarsest-same : (start schedule grid representatives : List ℕ) → coarsestCall s start schedule grid representatives ≡ coarsestCall t start schedule grid representatives
+  unfolding coarsestCall
+  coarsest-same start schedule grid representatives =
+      checked-same (coarsestRules s start grid representatives) (coarsestRules t start grid representatives)
+      (λ r. record { reply = refused r; grid = grid; representatives = representatives }) (coarsest-rules start grid representatives)
+      (both {A = CoarsestOutcome} (λ n L. refined L (relationOf n start) schedule))
+
+  pub coarsest-bytes-same : (start schedule grid representatives : List ℕ)
+      → coarsestOnBytes s start schedule grid representatives ≡ coarsestOnBytes t start schedule grid representatives
+  unfolding coarsestOnBytes
+  coarsest-bytes-same start schedule grid representatives =
+      checked-same (coarsestRules s (wordsOf start) (wordsOf grid) (stateNumbers representatives))
+      (coarsestRules t (wordsOf start) (wordsOf grid) (stateNumbers representatives))
+      (λ r. record { reply = refused r; grid = grid; representatives = representatives })
+      (coarsest-rules (wordsOf start) (wordsOf grid) (stateNumbers representatives))
+      (both {A = CoarsestOutcome} (λ n L. carriedBack (refined L (relationOf n (wordsOf start)) (listOf schedule))))
+
+  -- ## Hand play
+  pub play-same : (start : List ℕ) (p q rounds : ℕ) → playCall s start p q rounds ≡ playCall t start p q rounds
+  unfolding playCall playRules
+  play-same start p q rounds =
+      checked-same (playRules s start p q rounds) (playRules t start p q rounds) refused
+      (append-same (pairRules s start p q) (pairRules t start p q) _ _ (pair-same w start p q) refl)
+      (both {A = Reply} (λ n L. given (cond (challengerWins L (relationOf n start) rounds p q) 1 0 ∷ [])))
+
+  -- ## Plans, however they are carried
+  pub check-same : (start : List ℕ) (entries : List Entry) → checkCall s start entries ≡ checkCall t start entries
+  unfolding checkCall checkRules
+  check-same start entries =
+      checked-same (checkRules s start entries) (checkRules t start entries) refused
+      (append-same (inputRules s start) (inputRules t start) _ _ (inputs-same w start)
+      (both (λ n L. broken (accepted L (relationOf n start) entries otherwise Unsound ∷ [])))) refl
+
+  pub write-same : {A : Type 0} (carried : List Entry → List A) (width : ℕ) (start : List ℕ) (p q : ℕ) (plan : List A)
+      → writeCall carried width s start p q plan ≡ writeCall carried width t start p q plan
+  unfolding writeCall writeRules
+  write-same {A} carried width start p q plan =
+      checked-same (writeRules s start p q (length plan / width)) (writeRules t start p q (length plan / width)) (λ r. record { reply = refused r; plan = plan })
+      (append-same (pairRules s start p q) (pairRules t start p q) _ _ (pair-same w start p q)
+      (both (λ n L. broken (leb (refutationRound L (relationOf n start) p q) (n * n) otherwise StillRelated
+      ∷ leb (strategyLength L (relationOf n start) p q) (length plan / width) otherwise Buffer ∷ []))))
+      (both {A = WriteOutcome A} (λ n L.
+      record {
+        reply = given (strategyLength L (relationOf n start) p q ∷ []);
+        plan = carried (strategy L (relationOf n start) p q) ++ drop (width * strategyLength L (relationOf n start) p q) plan;
+      }))
+
+  -- ## Compare, in either place
+  pub compare-first-same : (second : List ℕ) → compareCall s second ≡ compareCall t second
+  unfolding compareCall
+  compare-first-same second =
+      checked-same (bothRules s second) (bothRules t second) refused (first-same w second)
+      (ap₂ {A = Lts} {B = List (List ℕ)} (λ L A.
+      let M = joinedSecond A (labelsOf second) (ltsOf second) in
+      given (cond (simulated L M) 1 0 ∷ comparison L M .steps ∷ [])) (twin-lts w) (twin-labels w))
+
+  pub compare-second-same : (first : List ℕ) → compareCall first s ≡ compareCall first t
+  unfolding compareCall
+  compare-second-same first =
+      checked-same (bothRules first s) (bothRules first t) refused (second-same w first)
+      (ap₂ {A = Lts} {B = List (List ℕ)} (λ M B.
+      let N = joinedSecond (labelsOf first) B M in
+      given (cond (simulated (ltsOf first) N) 1 0 ∷ comparison (ltsOf first) N .steps ∷ [])) (twin-lts w) (twin-labels w))
