@@ -32,7 +32,7 @@ pub record CoarsestOutcome : Type 0 where
   pub grid : List ℕ
   pub representatives : List ℕ
 
--- the sheet first (1 to 6), then the start (8 to 10), then the two buffers' lengths (15)
+-- the sheet first (1 to 6, 16, 17), then the start (8 to 10), then the two buffers' lengths (15)
 unfoldable pub coarsestRules : List ℕ → List ℕ → List ℕ → List ℕ → List Rule
 coarsestRules s start grid representatives =
     let n = headerOf s .states in

@@ -11,13 +11,14 @@ use Rattle.lts.specs.declared.Refusal.{Refusal}
 use Rattle.lts.specs.declared.Refusal.the-variants.{Buffer}
 use Rattle.lts.specs.Rule.{_otherwise_, First, broken}
 use Rattle.lts.proofs.Rule.{stop, pass, done, first-part, second-part, refuses, passes}
+use Rattle.encoding.specs.Labels.{recordsOf}
 use Rattle.encoding.specs.declared.Header.{Header}
 use Rattle.encoding.specs.Records.{encodingLength}
 use Rattle.transitions.specs.Table.{tableLts, Holds}
 use Rattle.inputs.specs.declared.Both.the-variants.{Readable, Refused as Unreadable}
 use Rattle.inputs.specs.Both.{joinedLts, bothRules, readBoth}
 use Rattle.inputs.proofs.Joined.{both-broken, both-read, both-joinable}
-use Rattle.normal_form.specs.Normal.{normalHeader, sheetBytes, recordsOf, normal}
+use Rattle.normal_form.specs.Normal.{normalHeader, sheetBytes, normal}
 use Rattle.normal_form.proofs.Labelled.{normal-length}
 use Rattle.disjoint_union.specs.declared.Joined.{Joined}
 use Rattle.disjoint_union.specs.declared.Joined.the-variants.{Written, Refused}

@@ -14,7 +14,7 @@ use Rattle.lts.specs.Rule.{Nothing, broken, checked, Reply, given, refused}
 use Rattle.lts.proofs.Rule.{passes}
 use Rattle.encoding.proofs.Sheets.{header, state, by, F1, endless, by-target, opens, shuts, name, named, open-first, open-second, loop}
 use Rattle.encoding.specs.Records.{numberAt, headerOf, labelRecordAt, labelRecord, labelsLength, stateRecordAt, transitionRecordAt, stateRecord, transitionRecord, two, headerBytes, stateBytes, transitionBytes}
-use Rattle.encoding.specs.Labels.{visible, follows, labelFits, padded, decimalLabel, labelIn, labelsIn, labelsFit, labelsBytes}
+use Rattle.encoding.specs.Labels.{visible, follows, labelFits, padded, decimalLabel, labelIn, labelsIn, labelsFit, labelsBytes, recordsOf}
 use Rattle.report.specs.Decimal.{decimalIn, decimal}
 use Rattle.lts.specs.System.{anyState, anyAction, into}
 use Rattle.lts.specs.Mapped.{mapped}
@@ -24,7 +24,7 @@ use Rattle.lts.specs.Labels.{sameLabel, labelOf, actionOf, joinedLabels, joined
 use Rattle.encoding.specs.Encoding.{inRange, stateFits, statesFit, transitionFits, transitionsFit, walk, chain, reached, member, onSomeChain, allReached, indices, occurrences, namedTwice, noneTwice, distinct, successor, successorsFit, headedRules, sheetRules}
 use Rattle.encoding.specs.Denotation.{any, ltsOf}
 use Rattle.inputs.specs.Both.{fits, jointRules, bothRules}
-use Rattle.normal_form.specs.Normal.{firstIndex, nextIndex, normalState, normalTransition, statesBytes, transitionsBytes, sheetBytes, recordsOf, normal}
+use Rattle.normal_form.specs.Normal.{firstIndex, nextIndex, normalState, normalTransition, statesBytes, transitionsBytes, sheetBytes, normal}
 use Rattle.disjoint_union.specs.Join.{JoinOutcome, joinedLabelling, joinedSheet, joinRules, joinCall, JoinPromise}
 use Rattle.disjoint_union.proofs.Promise.{sheet-normal}
 

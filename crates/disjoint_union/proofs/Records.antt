@@ -9,13 +9,13 @@ use Rattle.lts.specs.System.{Lts}
 use Rattle.lts.specs.Labels.{joinedLabels}
 use Rattle.encoding.specs.declared.Header.{Header}
 use Rattle.encoding.specs.Records.{headerOf, labelsLength}
-use Rattle.encoding.specs.Labels.{labelsIn, labelsOf, labelsBytes}
+use Rattle.encoding.specs.Labels.{labelsIn, labelsOf, labelsBytes, recordsOf}
 use Rattle.transitions.specs.Table.{tableLts, Holds}
 use Rattle.labels.specs.Maps.{Begins}
 use Rattle.encoding.proofs.Bytes.{Sixteen, label-sixteen, bytes-length}
-use Rattle.labels.proofs.Bytes.{joined-sixteen}
+use Rattle.lts.proofs.Labels.{joined-each}
 use Rattle.inputs.specs.Both.{joinedLts, Joinable}
-use Rattle.normal_form.specs.Normal.{normalHeader, recordsOf}
+use Rattle.normal_form.specs.Normal.{normalHeader}
 use Rattle.normal_form.proofs.Labelled.{records-length}
 use Rattle.disjoint_union.specs.Join.{joinedLabelling}
 use Rattle.disjoint_union.proofs.Union.{joined-encodable}
@@ -50,7 +50,7 @@ module _ {first second : List ℕ} {h g : Header} {m : ℕ} (j : Joinable first 
       (ap (λ (L : Lts). L .actions) (k .same))
 
   each : Sixteen (joinedLabels (labelsIn first h) (labelsIn second g))
-  each = joined-sixteen (labelsIn first h) (labelsIn second g) (label-sixteen first h) (label-sixteen second g)
+  each = joined-each (labelsIn first h) (labelsIn second g) (λ x. length x ≡ 16) (label-sixteen first h) (label-sixteen second g)
 
   -- and by the number of labels
   pub records-sixteen : {out : List ℕ} → not (h .named || g .named) ≡ false → Begins out (labelsBytes (joinedLabels (labelsIn first h) (labelsIn second g)))

@@ -2,20 +2,18 @@
 use Prim.Native.Nat.{ℕ, suc, _+_, _≤_, _<_, max}
 use native.Mathlib.Omega.{arith}
 use mathlib.Core.Path.{_≡_, refl, sym, ap, ap₂, subst, _∙_}
-use mathlib.Core.Logic.{⊎-elim}
 use mathlib.Core.Bool.{true, false}
 use mathlib.Core.List.{List, []}
 use lib.ListN.{length, getD}
 use Rattle.lts.specs.Bounded.{listBelow}
-use Rattle.lts.specs.System.{Lts}
 use Rattle.lts.specs.Transitions.{transitions}
 use Rattle.lts.specs.Mapped.{mapped}
 use Rattle.lts.specs.Union.{disjointUnion}
 use Rattle.lts.specs.Labels.{joinedLabels, joinedSecond, JoinedByLabel}
-use Rattle.lts.proofs.Below.{neither, lt-or-ge, length-listBelow}
+use Rattle.lts.proofs.Below.{neither, length-listBelow}
 use Rattle.lts.proofs.Mapped.{mapped-ends, mapped-count}
 use Rattle.lts.proofs.Union.{union-count, union-ends}
-use Rattle.lts.proofs.Labels.{second-sends, second-formed, joined-formed, joined-distinct, joined-by-label, numbered-joined}
+use Rattle.lts.proofs.Labels.{second-sends, second-formed, joined-formed, joined-distinct, joined-each, joined-by-label, numbered-joined}
 use Rattle.encoding.specs.declared.Header.{Header}
 use Rattle.encoding.specs.Records.{headerOf}
 use Rattle.encoding.specs.Labels.{labelFits, decimalLabel, labelIn, labelsIn, labelsOf}
@@ -35,14 +33,6 @@ each-label : (P : List ℕ → Type 0) (s : List ℕ) (h : Header) → ((i : ℕ
 each-label P s h f i l =
     let k : i < h .actions = let n = labels-length s h in omega (arith, n, l) in
     subst P (sym (labels-at s h i k)) (f i k)
-
--- holds of each joined label
-each-joined : (P : List ℕ → Type 0) {A B J : List (List ℕ)} {L M U : Lts} → JoinedByLabel A L B M J U
-    → ((i : ℕ) → i < length A → P (getD A i [])) → ((i : ℕ) → i < length B → P (getD B i [])) → (i : ℕ) → i < length J → P (getD J i [])
-each-joined P {A} j f g i l = ⊎-elim
-    (λ (k : i < length A). subst P (sym (j .front i k .1)) (f i k))
-    (λ (k : length A ≤ i). let (b, m, e) = j .new i k l in subst P (sym e) (g b m))
-    (lt-or-ge i (length A))
 
 module _ {first second : List ℕ} (r : ReadableAs first (headerOf first)) (t : ReadableAs second (headerOf second)) where
   one : Denoted first (headerOf first)
@@ -82,9 +72,9 @@ module _ {first second : List ℕ} (r : ReadableAs first (headerOf first)) (t : 
       record {
         count = sym (by-label .actions);
         plain = λ e. let k = neither (headerOf first .named) (headerOf second .named) e in plain (k .0) (k .1);
-        long = λ i l. each-joined (λ x. length x ≡ 16) by-label (each-label (λ x. length x ≡ 16) first _ (λ i _. label-length first _ (suc i)))
+        long = λ i l. joined-each A B (λ x. length x ≡ 16) (each-label (λ x. length x ≡ 16) first _ (λ i _. label-length first _ (suc i)))
             (each-label (λ x. length x ≡ 16) second _ (λ i _. label-length second _ (suc i))) i (number i l);
-        fit = λ i l. each-joined (λ x. labelFits x ≡ true) by-label
+        fit = λ i l. joined-each A B (λ x. labelFits x ≡ true)
             (each-label (λ x. labelFits x ≡ true) first _ (label-fits-each first _ (one .bounds) (r .labels)))
             (each-label (λ x. labelFits x ≡ true) second _ (label-fits-each second _ (two .bounds) (t .labels))) i (number i l);
         once = joined-distinct A B (one .labels .once);

@@ -2,10 +2,9 @@
 ghost use mathlib.Core.Path.{_≡_};
 ghost use Prim.Native.Nat.{_≤_};
 ghost use lib.ListN.{length, take};
-ghost use Rattle.encoding.specs.Labels.{labelsIn};
+ghost use Rattle.encoding.specs.Labels.{labelsIn, recordsOf};
 ghost use Rattle.labels.specs.Maps.{Matches};
 ghost use Rattle.inputs.specs.Both.{Joinable};
-ghost use Rattle.normal_form.specs.Normal.{recordsOf};
 ghost use Rattle.disjoint_union.specs.Join.{joinReply, joinedLabelling, joinCall, JoinPromise};
 
 // What join answers: the length of the sheet that it wrote.

@@ -1,20 +1,22 @@
 -- Laws of labels and of their records.
 use Prim.Native.Nat.{ℕ, zero, suc, _+_, _*_, _-_, _≤_, _<_}
-use mathlib.Core.Path.{_≡_, sym, ap, _∙_}
+use mathlib.Core.Path.{_≡_, refl, sym, ap, _∙_}
 use mathlib.Core.Bool.{Bool, true, false, cond, not, _&&_, and-true, and-false}
 use mathlib.Core.List.{List, [], _++_, append-nil}
 use mathlib.Core.Logic.{⊎-elim, _↔_}
 use native.Mathlib.Nat.{add-zero}
 use native.Mathlib.Numerals.{add-one}
 use native.Mathlib.Omega.{arith}
-use borrow.Author.Tests.{eqb-true, eqb-false}
+use borrow.Author.Tests.{eqb-true, eqb-false, eq-eqb, ne-eqb}
 use lib.Dec.{T, leb, eqb, leb→le, le→leb, eqb→eq}
 use lib.ListN.{length, getD, drop, replicate}
 use lib.ListN.{length-replicate, getD-replicate, List·getD-eq-default, List·getD-append}
 use lib.Seq.{getD-append-add, getD-drop, ext-getD}
 use Rattle.lts.specs.Bounded.{allBelow, listBelow, lowest}
 use Rattle.lts.proofs.Bounded.{and-iff, or-elim, or-left, or-right, all-iff, eq→eqb}
-use Rattle.lts.proofs.Below.{list-ext, lt-or-ge, length-listBelow, getD-listBelow, lowest-le, lowest-at, lowest-before, T-true}
+use Rattle.lts.specs.Labels.{sameLabel}
+use Rattle.lts.proofs.Below.{list-ext, lt-or-ge, length-listBelow, getD-listBelow, lowest-le, lowest-at, lowest-before, bool-iff, T-true, true-T, all-of, all-at}
+use Rattle.lts.proofs.Labels.{label-tests}
 use Rattle.lts.proofs.Lists.{all-stop, all-done}
 use Rattle.report.specs.Decimal.{decimal, written}
 use Rattle.report.proofs.Laws.{written-length, decimal-length, decimal-some, decimal-digit, shown, decimal-shown}
@@ -41,6 +43,24 @@ pub fits-done : (x : List ℕ) (d : ℕ) {b : Bool} → b ≡ visible (getD x 0 
     → b ≡ labelFits x
 unfolding labelFits
 fits-done x d e all l g = e ∙ sym (rw (← all-done _ 15 d all l g) (and-true (visible (getD x 0 0))))
+
+-- labels of 16 bytes are the same if they agree at each place
+pub same-bytes : (y x : List ℕ) → length y ≡ 16 → length x ≡ 16 → allBelow 16 (λ d. eqb (getD y d 0) (getD x d 0)) ≡ sameLabel y x
+same-bytes y x hy hx = bool-iff to from
+  where
+    to : allBelow 16 (λ d. eqb (getD y d 0) (getD x d 0)) ≡ true → sameLabel y x ≡ true
+    to t =
+        let e = list-ext 16 (λ d. getD x d 0) y hy (λ d h. eqb-true _ _ (all-at 16 _ t d h)) ∙ sym (list-ext 16 (λ d. getD x d 0) x hx (λ d h. refl)) in
+        ap (λ (z : List ℕ). sameLabel z x) e ∙ T-true (sameLabel x x) (label-tests .whole x)
+
+    from : sameLabel y x ≡ true → allBelow 16 (λ d. eqb (getD y d 0) (getD x d 0)) ≡ true
+    from t =
+        let e = label-tests .sound y x (true-T (sameLabel y x) t) in
+        all-of 16 _ (λ d h. eq-eqb _ _ (ap (λ (z : List ℕ). getD z d 0) e))
+
+-- a place where they differ
+pub differ-at : (y x : List ℕ) (d : ℕ) → length y ≡ 16 → length x ≡ 16 → d < 16 → (getD y d 0 ≡ getD x d 0 → ⊥) → false ≡ sameLabel y x
+differ-at y x d hy hx l n = all-stop _ 16 d l (sym (ne-eqb _ _ n)) refl ∙ same-bytes y x hy hx
 
 -- a text written into zeros
 written-zeros : (n : ℕ) (text : List ℕ) → length text ≤ n → written 0 text (replicate n 0) ≡ listBelow n (λ d. getD text d 0)

@@ -5,6 +5,7 @@ pub mod OnChain
 pub mod Naming
 pub mod Labels
 pub mod Bytes
+pub mod Parts
 pub mod Reader
 pub mod Denotation
 pub mod Counting

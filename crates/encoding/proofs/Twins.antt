@@ -1,34 +1,31 @@
 -- A plain sheet and the named sheet with decimal names of the same records (document 02, L2): the same refusal, the same Lts, the same labels.
-use Prim.Native.Nat.{ℕ, zero, suc, _+_, _*_, _-_, _%_, _≤_, _<_}
+use Prim.Native.Nat.{ℕ, zero, suc, _+_, _*_, _-_, _≤_, _<_}
 use native.Mathlib.Nat.{add-assoc}
 use native.Mathlib.Omega.{arith}
 use mathlib.Core.Path.{_≡_, refl, sym, ap, ap₂, subst, fun-ext, _∙_}
 use mathlib.Core.Bool.{Bool, true, false}
-use mathlib.Core.List.{List, [], _∷_, _++_}
-use borrow.Author.Tests.{le-leb, eq-eqb, eqb-true, leb-false}
+use mathlib.Core.List.{List, []}
+use borrow.Author.Tests.{le-leb, eq-eqb, eqb-true}
 use lib.Dec.{T, leb, eqb}
-use lib.ListN.{length, getD, set, take, drop, length-append, length-drop, length-set, List·getD-append}
-use lib.Seq.{getD-take, getD-drop, ext-getD, length-take-le, getD-set-same, getD-set-other, getD-append-add, drop-at}
-use Rattle.lts.specs.Bounded.{concatBelow, listBelow}
+use lib.ListN.{length, drop}
+use lib.Seq.{getD-drop, ext-getD}
 use Rattle.lts.specs.Places.{distinct}
 use Rattle.lts.specs.Labels.{sameLabel}
 use Rattle.lts.specs.declared.Refusal.the-variants.{Range}
 use Rattle.lts.specs.Rule.{First, broken}
-use Rattle.lts.proofs.Below.{T-true, bool-iff, all-of, list-ext}
-use Rattle.report.specs.Decimal.{decimalIn, decimal}
+use Rattle.lts.proofs.Below.{T-true, bool-iff, all-of}
+use Rattle.report.specs.Decimal.{decimal}
 use Rattle.encoding.specs.declared.Header.{Header}
-use Rattle.encoding.specs.Records.{numberAt, headerOf, stateAt, encodingLength}
-use Rattle.encoding.specs.Records.{labelRecord, labelRecordAt, stateRecord, stateRecordAt, transitionRecord, transitionRecordAt}
-use Rattle.encoding.specs.Labels.{labelFits, padded, decimalLabel, labelIn, labelsIn, labelsFit, labelsOf, labelsBytes}
+use Rattle.encoding.specs.Records.{numberAt, headerOf, stateAt, encodingLength, systemRecords}
+use Rattle.encoding.specs.Records.{labelRecord, stateRecord, stateRecordAt, transitionRecord, transitionRecordAt}
+use Rattle.encoding.specs.Labels.{labelFits, decimalLabel, labelIn, labelsFit, labelsOf}
 use Rattle.encoding.specs.Encoding.{inRange, stateFits, statesFit, transitionFits, transitionsFit, walk, chain, reached, onSomeChain, allReached}
 use Rattle.encoding.specs.Encoding.{indices, namedTwice, noneTwice, successor, successorsFit, headedRules, sheetRules}
 use Rattle.encoding.specs.Denotation.{ltsOf}
 use Rattle.encoding.proofs.Sizes.{labels-none, labels-all}
-use Rattle.encoding.proofs.Labels.{padded-length, named-label, plain-label, labels-length, labels-at}
-use Rattle.encoding.proofs.Bytes.{label-sixteen, bytes-length, bytes-at}
+use Rattle.encoding.proofs.Labels.{named-label, plain-label, labels-length, labels-at}
 use Rattle.encoding.proofs.Laws.{labels-once, label-fits-each}
 use Rattle.encoding.proofs.Reader.{in-range}
-use Rattle.encoding.proofs.Sheets.{F3}
 
 -- s is a plain sheet, and t the named sheet with decimal names of the same records
 pub record Twins (s t : List ℕ) : Type 0 where
@@ -42,7 +39,7 @@ pub record Twins (s t : List ℕ) : Type 0 where
   pub longer : length t ≡ length s + 16 * headerOf s .actions
   pub names : (a : ℕ) → 1 ≤ a → a ≤ headerOf s .actions → labelRecord t (headerOf t) a .bytes ≡ decimalLabel a
   -- from the state records on the same bytes
-  pub records : drop (stateAt (headerOf s) 0) s ≡ drop (stateAt (headerOf t) 0) t
+  pub records : systemRecords s (headerOf s) ≡ systemRecords t (headerOf t)
 
 -- ## The records, from the first state record on
 number-behind : (s : List ℕ) (k i : ℕ) → numberAt (drop k s) i ≡ numberAt s (k + i)
@@ -68,17 +65,13 @@ module _ (s : List ℕ) (k i : ℕ) where
       )
 
 module _ (s : List ℕ) (h : Header) where
-  -- the bytes from the first state record on
-  abbrev rest : List ℕ
-  rest = drop (stateAt h 0) s
+  state-in : (p : ℕ) → stateRecord s h p ≡ stateRecordAt (systemRecords s h) (4 * p)
+  unfolding stateRecord systemRecords
+  state-in p = ap (stateRecordAt s) (omega arith) ∙ sym (state-behind s (stateAt h 0) (4 * p))
 
-  state-in-rest : (p : ℕ) → stateRecord s h p ≡ stateRecordAt rest (4 * p)
-  unfolding stateRecord
-  state-in-rest p = ap (stateRecordAt s) (omega arith) ∙ sym (state-behind s (stateAt h 0) (4 * p))
-
-  transition-in-rest : (j : ℕ) → transitionRecord s h j ≡ transitionRecordAt rest (4 * h .states + 6 * (j - 1))
-  unfolding transitionRecord
-  transition-in-rest j = ap (transitionRecordAt s) (omega arith) ∙ sym (transition-behind s (stateAt h 0) (4 * h .states + 6 * (j - 1)))
+  transition-in : (j : ℕ) → transitionRecord s h j ≡ transitionRecordAt (systemRecords s h) (4 * h .states + 6 * (j - 1))
+  unfolding transitionRecord systemRecords
+  transition-in j = ap (transitionRecordAt s) (omega arith) ∙ sym (transition-behind s (stateAt h 0) (4 * h .states + 6 * (j - 1)))
 
 -- ## Two encodings with the same counts and the same records
 record Alike (s : List ℕ) (g : Header) (t : List ℕ) (h : Header) : Type 0 where
@@ -171,11 +164,11 @@ module _ {s t : List ℕ} (w : Twins s t) where
     states = w .states;
     actions = w .actions;
     transitions = w .transitions;
-    state = fun-ext (λ p. state-in-rest s (headerOf s) p ∙ ap (λ (l : List ℕ). stateRecordAt l (4 * p)) (w .records) ∙ sym (state-in-rest t (headerOf t) p));
+    state = fun-ext (λ p. state-in s (headerOf s) p ∙ ap (λ (l : List ℕ). stateRecordAt l (4 * p)) (w .records) ∙ sym (state-in t (headerOf t) p));
     transition = fun-ext (λ j.
-        transition-in-rest s (headerOf s) j
+        transition-in s (headerOf s) j
         ∙ ap₂ (λ (l : List ℕ) (n : ℕ). transitionRecordAt l (4 * n + 6 * (j - 1))) (w .records) (w .states)
-        ∙ sym (transition-in-rest t (headerOf t) j));
+        ∙ sym (transition-in t (headerOf t) j));
   }
 
   pub twin-lts : ltsOf s ≡ ltsOf t
@@ -232,120 +225,3 @@ module _ {s t : List ℕ} (w : Twins s t) where
       go false e =
           out-of-range s (headerOf s) (w .header) e
           ∙ sym (out-of-range t (headerOf t) (omega (arith, w .header, w .longer)) (sym (range-same alike) ∙ e))
-
--- ## Each plain sheet has a twin
--- 32,768 more in the first number, that is, 128 more in its high byte
-abbrev raised : List ℕ → List ℕ
-raised s = set s 1 (getD s 1 0 + 128)
-
--- and the decimal names behind the header
-unfoldable pub twin : List ℕ → List ℕ
-twin s = take 6 (raised s) ++ labelsBytes (labelsOf s) ++ drop 6 s
-
-module _ (s : List ℕ) (plain : headerOf s .named ≡ false) (long : 6 ≤ length s) where
-  abbrev front : List ℕ
-  front = take 6 (raised s)
-
-  abbrev labels : List ℕ
-  labels = labelsBytes (labelsOf s)
-
-  front-length : length front ≡ 6
-  front-length = length-take-le 6 (raised s) (rw (length-set s 1 (getD s 1 0 + 128)) long)
-
-  -- the bytes of the header
-  front-byte : (i : ℕ) → i < 6 → getD (twin s) i 0 ≡ getD (raised s) i 0
-  unfolding twin
-  front-byte i l =
-      List·getD-append (front ++ labels) (drop 6 s) 0 i (omega (arith, l, front-length, length-append front labels))
-      ∙ List·getD-append front labels 0 i (omega (arith, l, front-length))
-      ∙ getD-take 6 (raised s) i 0 l
-
-  front-same : (i : ℕ) → i < 6 → (i ≡ 1 → ⊥) → getD (twin s) i 0 ≡ getD s i 0
-  front-same i l n = front-byte i l ∙ getD-set-other s 1 i (getD s 1 0 + 128) 0 n
-
-  first-number : numberAt (twin s) 0 ≡ numberAt s 0 + 32768
-  unfolding numberAt
-  first-number =
-      let low = front-same 0 (omega arith) (λ e. omega (arith, e)) in
-      let high = front-byte 1 (omega arith) ∙ getD-set-same s 1 (getD s 1 0 + 128) 0 (omega (arith, long)) in
-      omega (arith, low, high)
-
-  other-number : (i : ℕ) → 2 ≤ i → i ≤ 4 → numberAt (twin s) i ≡ numberAt s i
-  unfolding numberAt
-  other-number i l u =
-      rw (front-same i (omega arith) (λ e. omega (arith, e)), front-same (i + 1) (omega arith) (λ e. omega (arith, e)))
-
-  header-twin : headerOf (twin s) ≡ record { states = headerOf s .states; actions = headerOf s .actions; transitions = headerOf s .transitions; named = true }
-  unfolding headerOf
-  header-twin =
-      let few : numberAt s 0 < 32768 = leb-false 32768 (numberAt s 0) plain in
-      let same : (numberAt s 0 + 32768) % 32768 ≡ numberAt s 0 % 32768 = omega arith in
-      rw (
-        first-number,
-        other-number 2 (omega arith) (omega arith),
-        other-number 4 (omega arith) (omega arith),
-        same,
-        le-leb 32768 (numberAt s 0 + 32768) (omega arith),
-      )
-
-  -- the bytes of the names
-  labels-long : length labels ≡ 16 * headerOf s .actions
-  labels-long = bytes-length (labelsOf s) (label-sixteen s (headerOf s)) ∙ ap (λ (m : ℕ). 16 * m) (labels-length s (headerOf s))
-
-  both-length : length (front ++ labels) ≡ 6 + 16 * headerOf s .actions
-  both-length = omega (arith, length-append front labels, front-length, labels-long)
-
-  label-byte : (i d : ℕ) → i < headerOf s .actions → d < 16 → getD (twin s) (6 + 16 * i + d) 0 ≡ getD (decimalLabel (suc i)) d 0
-  unfolding twin
-  label-byte i d l u =
-      let m = labels-length s (headerOf s) in
-      let at : 6 + 16 * i + d ≡ length front + (16 * i + d) = omega (arith, front-length) in
-      List·getD-append (front ++ labels) (drop 6 s) 0 (6 + 16 * i + d) (omega (arith, both-length))
-      ∙ ap (λ (x : ℕ). getD (front ++ labels) x 0) at
-      ∙ getD-append-add front labels (16 * i + d) 0
-      ∙ bytes-at (labelsOf s) (label-sixteen s (headerOf s)) i d (omega (arith, m, l)) u
-      ∙ ap (λ (x : List ℕ). getD x d 0) (labels-at s (headerOf s) i l ∙ plain-label s (headerOf s) (suc i) plain)
-
-  twin-names : (h : Header) (a : ℕ) → 1 ≤ a → a ≤ headerOf s .actions → labelRecord (twin s) h a .bytes ≡ decimalLabel a
-  unfolding labelRecord labelRecordAt decimalLabel
-  twin-names h a l u =
-      let at : suc (a - 1) ≡ a = omega arith in
-      let long = padded-length (decimal a) in
-      sym (list-ext 16 (λ d. getD (twin s) (6 + 16 * (a - 1) + d) 0) (decimalLabel a) long (λ d k. rw at at (sym (label-byte (a - 1) d (omega arith) k))))
-
-  pub twin-is : Twins s (twin s)
-  unfolding twin
-  twin-is =
-      let named : headerOf (twin s) .named ≡ true = ap (λ (h : Header). h .named) header-twin in
-      let actions : headerOf (twin s) .actions ≡ headerOf s .actions = ap (λ (h : Header). h .actions) header-twin in
-      let at-six : stateAt (headerOf s) 0 ≡ 6 = omega (arith, labels-none (headerOf s) plain) in
-      let behind : length (front ++ labels) ≡ stateAt (headerOf (twin s)) 0 = omega (arith, both-length, labels-all (headerOf (twin s)) named, actions) in
-      record {
-        plain = plain;
-        named = named;
-        states = sym (ap (λ (h : Header). h .states) header-twin);
-        actions = sym actions;
-        transitions = sym (ap (λ (h : Header). h .transitions) header-twin);
-        header = long;
-        longer = omega (arith, length-append (front ++ labels) (drop 6 s), both-length, length-drop 6 s, long);
-        names = twin-names (headerOf (twin s));
-        records = ap (λ (k : ℕ). drop k s) at-six ∙ sym (drop-at (front ++ labels) (drop 6 s) (stateAt (headerOf (twin s)) 0) behind);
-      }
-
--- ## Computed: F3's twin, with "1" behind the header; the same with "2" there is no twin
-abbrev named-F3 : ℕ → List ℕ
-named-F3 digit =
-    3 ∷ 128 ∷ 1 ∷ 0 ∷ 2 ∷ 0 ∷ digit ∷ 0 ∷ 0 ∷ 0 ∷ 0 ∷ 0 ∷ 0 ∷ 0 ∷ 0 ∷ 0 ∷ 0 ∷ 0 ∷ 0 ∷ 0 ∷ 0 ∷ 0
-    ∷ 0 ∷ 0 ∷ 1 ∷ 0 ∷ 0 ∷ 0 ∷ 0 ∷ 0 ∷ 0 ∷ 0 ∷ 2 ∷ 0 ∷ 1 ∷ 0 ∷ 1 ∷ 0 ∷ 0 ∷ 0 ∷ 1 ∷ 0 ∷ 2 ∷ 0 ∷ 0 ∷ 0 ∷ []
-
-F3-twin : twin F3 ≡ named-F3 49
-unfolding twin numberAt headerOf listBelow concatBelow decimalIn decimal padded decimalLabel labelIn labelsIn labelsBytes
-F3-twin = refl
-
-F3-twins : Twins F3 (named-F3 49)
-unfolding numberAt headerOf
-F3-twins = subst (Twins F3) F3-twin (twin-is F3 refl (omega arith))
-
-F3-other : Twins F3 (named-F3 50) → ⊥
-unfolding numberAt headerOf listBelow decimalIn decimal padded decimalLabel labelRecord labelRecordAt
-F3-other w = let z = ap (λ (l : List ℕ). getD l 0 0) (w .names 1 (omega arith) (omega arith)) in omega (arith, z)

@@ -32,6 +32,10 @@ padded text = listBelow 16 (λ d. getD text d 0)
 unfoldable pub decimalLabel : ℕ → List ℕ
 decimalLabel a = padded (decimal a)
 
+-- the names of a plain sheet of m actions, in order
+abbrev pub decimalLabels : ℕ → List (List ℕ)
+decimalLabels m = listBelow m (λ i. decimalLabel (suc i))
+
 -- the label of action a, from 1, and the labels in order
 unfoldable pub labelIn : List ℕ → Header → ℕ → List ℕ
 labelIn s h a = cond (h .named) (labelRecord s h a .bytes) (decimalLabel a)
@@ -57,6 +61,10 @@ labellingOf s = record { named = headerOf s .named; labels = labelsOf s }
 -- the labels one after the other
 unfoldable pub labelsBytes : List (List ℕ) → List ℕ
 labelsBytes labels = concatBelow (length labels) (λ i. getD labels i [])
+
+-- the label records of a sheet: a plain one has none
+unfoldable pub recordsOf : Labelling → List ℕ
+recordsOf K = cond (K .named) (labelsBytes (K .labels)) []
 
 -- x is a label in the document's words: a name of 1 to 16 bytes from hexadecimal 21 to 7E, then zeros
 pub record IsLabel (x : List ℕ) : Type 0 where

@@ -1,16 +1,20 @@
 -- The records of an encoding (document 01, "The sheet"; document 02, L2): how each is read from bytes and written as bytes, and where each
 -- stands. A label record is a name, a state record a page record, a transition record a move record. No other definition knows a place in an
 -- encoding.
-use Prim.Native.Nat.{ℕ, _+_, _*_, _-_, _/_, _%_}
-use mathlib.Core.Bool.{cond}
+use Prim.Native.Nat.{ℕ, _+_, _*_, _-_, _<_, _/_, _%_}
+use mathlib.Core.Bool.{Bool, cond}
 use mathlib.Core.List.{List, [], _∷_, _++_}
 use lib.Dec.{leb}
-use lib.ListN.{getD, take, drop}
+use lib.ListN.{length, getD, take, drop}
 use Rattle.lts.specs.Bounded.{listBelow}
 use Rattle.encoding.specs.declared.Header.{Header}
 use Rattle.encoding.specs.declared.LabelRecord.{LabelRecord}
 use Rattle.encoding.specs.declared.StateRecord.{StateRecord}
 use Rattle.encoding.specs.declared.TransitionRecord.{TransitionRecord}
+
+-- each number is below 256 (those of a slice of bytes are)
+abbrev pub IsBytes : List ℕ → Type 0
+IsBytes s = (i : ℕ) → i < length s → getD s i 0 < 256
 
 -- a 16-bit number, low byte first: read at i, and written
 unfoldable pub numberAt : List ℕ → ℕ → ℕ
@@ -25,6 +29,10 @@ headerOf s = record { states = numberAt s 0 % 32768; actions = numberAt s 2; tra
 
 unfoldable pub headerBytes : Header → List ℕ
 headerBytes h = two (h .states + cond (h .named) 32768 0) ++ two (h .actions) ++ two (h .transitions)
+
+-- the same counts in the wanted kind (document 02, L3)
+abbrev pub ofKind : Bool → Header → Header
+ofKind named h = record { states = h .states; actions = h .actions; transitions = h .transitions; named = named }
 
 -- a label record: 16 bytes
 unfoldable pub labelRecordAt : List ℕ → ℕ → LabelRecord
@@ -69,6 +77,10 @@ encodingLength h = 6 + labelsLength h + 4 * h .states + 6 * h .transitions
 -- the bytes of all label records
 unfoldable pub labelRecords : List ℕ → Header → List ℕ
 labelRecords s h = take (labelsLength h) (drop 6 s)
+
+-- the bytes of all state and transition records: the rest of the encoding
+unfoldable pub systemRecords : List ℕ → Header → List ℕ
+systemRecords s h = drop (stateAt h 0) s
 
 -- the label record of action a, the record of state p, and transition record j
 unfoldable pub labelRecord : List ℕ → Header → ℕ → LabelRecord

@@ -4,7 +4,8 @@ ghost use mathlib.Core.Path.{_≡_};
 ghost use mathlib.Core.Bool.{true, cond};
 ghost use lib.ListN.{length};
 ghost use lib.Seq.{sets};
-ghost use Rattle.encoding.specs.Records.{numberAt, two, headerOf, headerBytes, stateRecordAt, stateBytes};
+ghost use Rattle.lts.specs.Labels.{sameLabel};
+ghost use Rattle.encoding.specs.Records.{numberAt, two, headerOf, headerBytes, ofKind, stateRecordAt, stateBytes};
 ghost use Rattle.encoding.specs.Records.{transitionRecordAt, transitionBytes, labelRecordAt, labelBytes};
 ghost use Rattle.encoding.specs.Records.{labelsLength, labelAt, stateAt, transitionAt, encodingLength};
 ghost use Rattle.encoding.specs.Records.{labelRecords, labelRecord, stateRecord, transitionRecord};
@@ -104,6 +105,13 @@ impl Header {
         )
     }
 
+    // The same counts in the wanted kind.
+    pub fn of_kind(self, named: bool) -> Header
+        ensures { λ r. ⌜ r ≡ ofKind named self ⌝ }
+    {
+        Header::new(self.states, self.actions, self.transitions, named)
+    }
+
     // The first number.
     fn first(self) -> usize
         requires { ⌜ self .states < 32768 ⌝ }
@@ -185,13 +193,13 @@ impl LabelRecord {
         LabelRecord { bytes: bytes }
     }
 
-    // The name of action a in a plain sheet.
-    fn decimal(a: usize) -> LabelRecord
-        requires { ⌜ a ≤ 64 ⌝ }
-        ensures { λ r. ⌜ r .bytes ≡ decimalLabel a ⌝ }
+    // The name of action i + 1 in a plain sheet.
+    pub fn decimal(i: usize) -> LabelRecord
+        requires { ⌜ i < 64 ⌝ }
+        ensures { λ r. ⌜ r .bytes ≡ decimalLabel (i + 1) ⌝ }
     {
         let mut bytes = [0u8; 16];
-        report::put_decimal(&mut bytes, 0, a);
+        report::put_decimal(&mut bytes, 0, i + 1);
         LabelRecord::new(bytes)
     }
 
@@ -217,6 +225,20 @@ impl LabelRecord {
             out[at + d] = self.bytes[d];
             d += 1;
         }
+    }
+
+    // Whether both have the same bytes.
+    pub fn same(self, other: LabelRecord) -> bool
+        ensures { λ r. ⌜ r ≡ sameLabel (self .bytes) (other .bytes) ⌝ }
+    {
+        let mut d = 0;
+        while d < 16 {
+            if self.bytes[d] != other.bytes[d] {
+                return false;
+            }
+            d += 1;
+        }
+        true
     }
 
     // Whether it is a name of 1 to 16 bytes, then zeros.
@@ -338,7 +360,7 @@ pub fn label(s: &[u8], h: Header, a: usize) -> LabelRecord
     if h.named {
         return label_record(s, h, a);
     }
-    LabelRecord::decimal(a)
+    LabelRecord::decimal(a - 1)
 }
 
 // The record of state p.

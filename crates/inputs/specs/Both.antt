@@ -38,7 +38,7 @@ fits h g = leb (h .states + g .states) 256 && leb (h .transitions + g .transitio
 unfoldable pub jointRules : Header → Header → ℕ → List Rule
 jointRules h g m = fits h g otherwise TooLarge ∷ leb m 64 otherwise TooManyLabels ∷ []
 
--- the first sheet (1 to 6), then the second, then the joined flow
+-- the first sheet (1 to 6, 16, 17), then the second, then the joined flow
 unfoldable pub bothRules : List ℕ → List ℕ → List Rule
 bothRules first second =
     let h = headerOf first in

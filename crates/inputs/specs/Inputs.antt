@@ -14,7 +14,7 @@ use Rattle.encoding.specs.Encoding.{sheetRules}
 use Rattle.encoding.specs.Checked.{ReadableAs}
 use Rattle.relation.specs.Check.{startRules}
 
--- the sheet's rules (1 to 6), then the start's (8 to 10)
+-- the sheet's rules (1 to 6, 16, 17), then the start's (8 to 10)
 unfoldable pub inputRules : List ℕ → List ℕ → List Rule
 inputRules s start = sheetRules s ++ startRules (headerOf s .states) start
 

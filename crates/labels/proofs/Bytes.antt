@@ -1,23 +1,24 @@
 -- Labels written one after the other.
 use Prim.Native.Nat.{ℕ, _+_, _*_, _-_, _≤_, _<_}
 use native.Mathlib.Omega.{arith}
-use mathlib.Core.Path.{_≡_, refl, sym, ap, ap₂, _∙_, subst}
+use mathlib.Core.Path.{_≡_, sym, ap, ap₂, _∙_, subst}
 use mathlib.Core.Bool.{true, false}
 use mathlib.Core.Logic.{⊎-elim}
 use mathlib.Core.List.{List, [], _∷_, _++_}
 use lib.Dec.{T}
 use lib.ListN.{length, getD, take, drop, length-append, length-drop, take-append-drop}
-use lib.Seq.{sets, sets-eq, getD-take, length-take-le, take-append-seam, drop-append-add, drop-drop}
+use lib.Seq.{sets, sets-eq, length-sets, getD-take, length-take-le, take-append-seam, drop-append-add, drop-drop}
 use Rattle.lts.specs.Places.{among, distinct}
 use Rattle.lts.specs.Labels.{sameLabel, joinedLabels, joinedAction}
 use Rattle.lts.proofs.Below.{clash, either, true-T, T-true}
 use Rattle.lts.proofs.Places as places
-use Rattle.lts.proofs.Labels.{label-tests, joined-length, joined-second, joined-old, joined-new, joined-step-old, joined-step-new}
+use Rattle.lts.proofs.Labels.{label-tests, joined-length, joined-each, joined-second, joined-old, joined-new, joined-step-old, joined-step-new}
 use Rattle.encoding.specs.declared.Header.{Header}
 use Rattle.encoding.specs.Labels.{labelsIn, labelsBytes}
 use Rattle.encoding.specs.Checked.{Bounds}
 use Rattle.encoding.proofs.Labels.{labels-length}
-use Rattle.encoding.proofs.Bytes.{Sixteen, label-sixteen, bytes-more, bytes-length}
+use Rattle.lts.proofs.Lists.{sets-append}
+use Rattle.encoding.proofs.Bytes.{Sixteen, label-sixteen, bytes-none, bytes-more, bytes-length}
 use Rattle.labels.specs.Maps.{Begins, Matches, Joining}
 
 -- the first i of labels of 16 bytes
@@ -25,6 +26,18 @@ pub take-sixteen : (J : List (List ℕ)) (i : ℕ) → i ≤ length J → Sixtee
 take-sixteen J i l each k h =
     let n = length-take-le i J l in
     ap (λ (x : List ℕ). length x) (getD-take i J k [] (omega (arith, h, n))) ∙ each k (omega (arith, h, n, l))
+
+-- ## Labels written one after the other from a place on
+
+module _ (out₀ : List ℕ) (at : ℕ) where
+  pub put-none : out₀ ≡ sets out₀ at (labelsBytes [])
+  put-none = sym (ap (sets out₀ at) bytes-none)
+
+  pub put-more : (J : List (List ℕ)) (i : ℕ) (x : List ℕ) {out : List ℕ} → Sixteen J → length J ≡ i → out ≡ sets out₀ at (labelsBytes J)
+      → sets out (at + 16 * i) x ≡ sets out₀ at (labelsBytes (J ++ (x ∷ [])))
+  put-more J i x each count e =
+      let long : length (labelsBytes J) ≡ 16 * i = bytes-length J each ∙ ap (λ (k : ℕ). 16 * k) count in
+      rw (e, bytes-more, sets-append, long)
 
 -- ## A label written behind others
 
@@ -34,7 +47,7 @@ sets-behind p q x room =
     sets-eq x (p ++ q) (length p) (omega (arith, room, n))
     ∙ ap₂ (λ (a b : List ℕ). a ++ x ++ b) (take-append-seam p q) (drop-append-add p q (length x))
 
-pub label-put : (J : List (List ℕ)) (x before : List ℕ) {out : List ℕ} (at : ℕ) → Sixteen J → length x ≡ 16 → at ≡ 16 * length J → at + 16 ≤ length before
+label-put : (J : List (List ℕ)) (x before : List ℕ) {out : List ℕ} (at : ℕ) → Sixteen J → length x ≡ 16 → at ≡ 16 * length J → at + 16 ≤ length before
     → out ≡ labelsBytes J ++ drop at before → sets out at x ≡ labelsBytes (J ++ (x ∷ [])) ++ drop (at + 16) before
 label-put J x before {out} at each long place room e =
     let n : at ≡ length (labelsBytes J) = place ∙ sym (bytes-length J each) in
@@ -61,20 +74,6 @@ begins-put J x {out} at each long place room b =
     (label-put J x out at each long place room (begins-is (labelsBytes J) b ∙ ap (λ (k : ℕ). labelsBytes J ++ drop k out) n))
 
 -- ## The second sheet's new labels behind the first's
-
-inside : (J : List (List ℕ)) → Sixteen J → (y : List ℕ) → T (among sameLabel J y) → length y ≡ 16
-inside J each y t =
-    let p = places.among-iff sameLabel label-tests [] J y .0 t in
-    sym (ap (λ (z : List ℕ). length z) (p .2)) ∙ each (p .0) (p .1)
-
-pub joined-sixteen : (A B : List (List ℕ)) → Sixteen A → Sixteen B → Sixteen (joinedLabels A B)
-unfolding joinedLabels
-joined-sixteen A B ea eb i l =
-    let y = getD (joinedLabels A B) i [] in
-    ⊎-elim
-    (inside A ea y)
-    (inside B eb y)
-    (places.continued-among sameLabel label-tests [] A B y .0 (places.among-iff sameLabel label-tests [] (joinedLabels A B) y .1 (i, l, refl)))
 
 module _ (A B : List (List ℕ)) (once : T (distinct sameLabel B)) (i : ℕ) (l : i < length B) {a : ℕ} (number : a ≡ joinedAction A B (i + 1)) where
   abbrev x : List ℕ
@@ -108,7 +107,7 @@ module _ (A B : List (List ℕ)) (once : T (distinct sameLabel B)) (i : ℕ) (l 
         let J = joinedLabels A (take i B) in
         let f = new h in
         let at = number ∙ joined-new A B i l once f in
-        let each = joined-sixteen A (take i B) ea (take-sixteen B i (omega (arith, l)) eb) in
+        let each = joined-each A (take i B) (λ x. length x ≡ 16) ea (take-sixteen B i (omega (arith, l)) eb) in
         let place : 16 * (a - 1) ≡ 16 * length (joinedLabels A (take i B)) = omega (arith, at) in
         subst (Begins (sets out (16 * (a - 1)) y))
         (ap (λ (z : List ℕ). labelsBytes (J ++ (z ∷ []))) e ∙ ap labelsBytes (sym (joined-step-new A B i l once f)))
@@ -120,17 +119,17 @@ module _ (A B : List (List ℕ)) (once : T (distinct sameLabel B)) (i : ℕ) (l 
 -- the first sheet's labels are written, and the second's are to follow
 pub joining : (s : List ℕ) (h : Header) (t : List ℕ) (g : Header) (before : List ℕ) {to out : List ℕ} → Bounds h → length before ≡ 1024
     → Matches (labelsIn s h) (labelsIn t g) (g .actions) to → length (joinedLabels (labelsIn s h) (labelsIn t g)) ≤ 64
-    → out ≡ labelsBytes (labelsIn s h) ++ drop (16 * h .actions) before → Joining (labelsIn s h) (labelsIn t g) (h .actions) to out
+    → out ≡ sets before 0 (labelsBytes (labelsIn s h)) → Joining (labelsIn s h) (labelsIn t g) (h .actions) to out
 joining s h t g before {to} bounds long matches few e =
     let n = labels-length s h in
     let bytes = bytes-length (labelsIn s h) (label-sixteen s h) in
-    let rest = length-drop (16 * h .actions) before in
-    let sum = ap (λ (l : List ℕ). length l) e ∙ length-append (labelsBytes (labelsIn s h)) (drop (16 * h .actions) before) in
+    let most = bounds .actions in
+    let front = sets-eq (labelsBytes (labelsIn s h)) before 0 (omega (arith, n, bytes, long, most)) in
     record {
       matches = subst (λ (k : ℕ). Matches (labelsIn s h) (labelsIn t g) k to) (sym (labels-length t g)) matches;
       few = few;
       count = sym n;
       each = label-sixteen s h;
-      long = let most = bounds .actions in omega (arith, n, bytes, rest, sum, long, most);
-      front = begins-of (labelsBytes (labelsIn s h)) (drop (16 * h .actions) before) e;
+      long = ap (λ (l : List ℕ). length l) e ∙ length-sets before 0 (labelsBytes (labelsIn s h)) ∙ long;
+      front = begins-of (labelsBytes (labelsIn s h)) _ (e ∙ front);
     }

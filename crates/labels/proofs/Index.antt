@@ -17,9 +17,10 @@ use Rattle.lts.specs.Bounded.{anyBelow, allBelow, lowest}
 use Rattle.lts.specs.Places.{among, placeIn}
 use Rattle.lts.specs.Labels.{sameLabel}
 use Rattle.lts.proofs.Below.{lt-or-ge, clash, either, bool-iff, T-true, true-T, and-fst, and-snd}
-use Rattle.lts.proofs.Below.{all-of, all-at, all-not, all-cong, any-yes, any-more, any-some, lowest-is, lowest-none, lowest-agree, list-ext, length-listBelow}
+use Rattle.lts.proofs.Below.{all-not, all-cong, any-yes, any-more, any-some, lowest-is, lowest-none, lowest-agree, length-listBelow}
 use Rattle.lts.proofs.Places as places
 use Rattle.lts.proofs.Labels.{label-tests}
+use Rattle.encoding.proofs.Labels.{same-bytes}
 use Rattle.rows.specs.Rows.{bit, inRow, rowOf}
 use Rattle.rows.proofs.Bits.{bit-and, bit-not, bit-of-zero}
 use Rattle.rows.proofs.Rows.{inRow-at, inRow-of, inRow-zeros}
@@ -235,20 +236,6 @@ halves true y x = bool-iff to from
     from t =
         let e = eqb-true y x t in
         ap₂ _&&_ (eq-eqb (y % 16) (x % 16) (ap (λ (z : ℕ). z % 16) e)) (eq-eqb (y / 16) (x / 16) (ap (λ (z : ℕ). z / 16) e))
-
--- labels of 16 bytes are the same if they agree at each place
-same-bytes : (y x : List ℕ) → length y ≡ 16 → length x ≡ 16 → allBelow 16 (λ d. eqb (getD y d 0) (getD x d 0)) ≡ sameLabel y x
-same-bytes y x hy hx = bool-iff to from
-  where
-    to : allBelow 16 (λ d. eqb (getD y d 0) (getD x d 0)) ≡ true → sameLabel y x ≡ true
-    to t =
-        let e = list-ext 16 (λ d. getD x d 0) y hy (λ d h. eqb-true _ _ (all-at 16 _ t d h)) ∙ sym (list-ext 16 (λ d. getD x d 0) x hx (λ d h. refl)) in
-        ap (λ (z : List ℕ). sameLabel z x) e ∙ T-true (sameLabel x x) (label-tests .whole x)
-
-    from : sameLabel y x ≡ true → allBelow 16 (λ d. eqb (getD y d 0) (getD x d 0)) ≡ true
-    from t =
-        let e = label-tests .sound y x (true-T (sameLabel y x) t) in
-        all-of 16 _ (λ d h. eq-eqb _ _ (ap (λ (z : List ℕ). getD z d 0) e))
 
 -- the place of x is the first of the places with the same label
 place-before : (J : List (List ℕ)) (x : List ℕ) (i : ℕ) → i < placeIn sameLabel J x → sameLabel (getD J i []) x ≡ false

@@ -35,11 +35,11 @@ module _ (s : List ℕ) (h : Header) where
     pub indexed-next : {index : List ℕ} → Indexed (take i (labelsIn s h) ++ (x ∷ [])) index → Indexed (take (i + 1) (labelsIn s h)) index
     indexed-next {index} = subst (λ (J : List (List ℕ)). Indexed J index) labels-next
 
-  pub labels-all : (i : ℕ) → h .actions ≤ i → take i (labelsIn s h) ≡ labelsIn s h
-  labels-all i l = let n = labels-length s h in take-all i (labelsIn s h) (omega (arith, l, n))
+  pub labels-whole : (i : ℕ) → h .actions ≤ i → take i (labelsIn s h) ≡ labelsIn s h
+  labels-whole i l = let n = labels-length s h in take-all i (labelsIn s h) (omega (arith, l, n))
 
   pub indexed-all : (i : ℕ) → h .actions ≤ i → {index : List ℕ} → Indexed (take i (labelsIn s h)) index → Indexed (labelsIn s h) index
-  indexed-all i l {index} = subst (λ (J : List (List ℕ)). Indexed J index) (labels-all i l)
+  indexed-all i l {index} = subst (λ (J : List (List ℕ)). Indexed J index) (labels-whole i l)
 
 -- ## Two plain sheets: joined labels by number
 

@@ -1,13 +1,14 @@
 // Labels (names) of two sheets matched (document 02, L2): an index of labels by their bytes, and the joined numbers of the second sheet's actions.
-ghost use Prim.Native.Nat.{ℕ, _*_, _<_, _≤_, max};
+ghost use Prim.Native.Nat.{ℕ, _+_, _*_, _<_, _≤_, max};
 ghost use mathlib.Core.Path.{_≡_};
 ghost use mathlib.Core.Bool.{cond};
 ghost use mathlib.Core.List.{List, [], _∷_, _++_};
-ghost use lib.ListN.{length, drop};
+ghost use lib.ListN.{length};
+ghost use lib.Seq.{sets};
 ghost use Rattle.lts.specs.Places.{among, placeIn};
 ghost use Rattle.lts.specs.Labels.{sameLabel, joinedLabels};
 ghost use Rattle.encoding.specs.Labels.{labelsIn, labelsBytes};
-ghost use Rattle.encoding.specs.Checked.{ReadableAs};
+ghost use Rattle.encoding.specs.Checked.{Sized, ReadableAs};
 ghost use Rattle.labels.specs.Index.{lowWord, highWord, Indexed};
 ghost use Rattle.labels.specs.Maps.{Matches, Joining, Begins};
 
@@ -135,16 +136,16 @@ pub fn join_labels(
     match_labels(&index, h.actions, second, g, to)
 }
 
-// Writes the labels of a sheet, one after the other, at the start of the buffer.
-fn put_labels(s: &[u8], h: encoding::Header, out: &mut [u8])
-    requires { ⌜ ReadableAs (now s) h × (16 * h .actions ≤ length (now out)) ⌝ }
-    ensures { λ _. ⌜ now (out .exit) ≡ labelsBytes (labelsIn (now (s .entry)) h) ++ drop (16 * h .actions) (now (out .entry)) ⌝ }
+// Writes the labels of a sheet, one after the other, from `at` on.
+pub fn put_labels(s: &[u8], h: encoding::Header, out: &mut [u8], at: usize)
+    requires { ⌜ Sized (now s) h × (at + 16 * h .actions ≤ length (now out)) ⌝ }
+    ensures { λ _. ⌜ now (out .exit) ≡ sets (now (out .entry)) at (labelsBytes (labelsIn (now (s .entry)) h)) ⌝ }
 {
     let m = h.actions;
     let mut i = 0;
     while i < m {
         let label = encoding::label(s, h, i + 1);
-        label.put(out, encoding::LabelRecord::BYTES * i);
+        label.put(out, at + encoding::LabelRecord::BYTES * i);
         i += 1;
     }
 }
@@ -181,6 +182,6 @@ pub fn put_joined(
         × (length (joinedLabels (labelsIn (now first) h) (labelsIn (now second) g)) ≤ 64) ⌝ }
     ensures { λ _. ⌜ Begins (now (out .exit)) (labelsBytes (joinedLabels (labelsIn (now (first .entry)) h) (labelsIn (now (second .entry)) g))) ⌝ }
 {
-    put_labels(first, h, out);
+    put_labels(first, h, out, 0);
     put_new(second, g, to, h.actions, out);
 }

@@ -1,6 +1,6 @@
 -- Laws of truth values and of the tests, sums, lists and lowest numbers below a bound. Assumes nothing.
 use mathlib.Core.Path.{_≡_, refl, sym, ap, ap₂, _∙_, fun-ext}
-use mathlib.Core.Bool.{Bool, true, false, cond, not, _&&_, _||_}
+use mathlib.Core.Bool.{Bool, true, false, cond, not, _&&_, _||_, and-true}
 use mathlib.Core.List.{List, [], _∷_, _++_, append-nil}
 use mathlib.Core.Logic.{_⊎_, inl, inr, ⊎-elim}
 use Prim.Native.Nat.{ℕ, zero, suc, _+_, _-_, _*_, _≤_, _<_, zero-le, suc-le-suc}
@@ -85,6 +85,14 @@ all-yes k f e = sym (all-of k f e)
 -- one that fails
 pub all-not : (k : ℕ) (f : ℕ → Bool) (i : ℕ) → i < k → f i ≡ false → false ≡ allBelow k f
 all-not k f i h e = ⊎-elim (λ p. absurd (clash (all-at k f p i h) e)) sym (either (allBelow k f))
+
+-- where not all pass, one fails
+pub all-fails : (k : ℕ) (f : ℕ → Bool) → allBelow k f ≡ false → (i : ℕ) × (i < k) × (f i ≡ false)
+unfolding allBelow
+all-fails zero f e = absurd (clash refl e)
+all-fails (suc k) f e = ⊎-elim (λ (t : f k ≡ true).
+    let (i, l, n) = all-fails k f (sym (rw t (and-true (allBelow k f))) ∙ e) in (i, omega (arith, l), n))
+    (λ (t : f k ≡ false). (k, omega arith, t)) (either (f k))
 
 pub all-cong : (k : ℕ) (f g : ℕ → Bool) → ((i : ℕ) → i < k → f i ≡ g i) → allBelow k f ≡ allBelow k g
 all-cong k f g e = bool-iff (λ p. all-of k g (λ i h. sym (e i h) ∙ all-at k f p i h)) (λ p. all-of k f (λ i h. e i h ∙ all-at k g p i h))

@@ -72,6 +72,18 @@ module _ (A B : List (List ℕ)) where
   unfolding joinedLabels
   joined-most = places.continued-most sameLabel label-tests [] A B
 
+  -- what holds of each label of both holds of each joined one
+  pub joined-each : (P : List ℕ → Type 0) → ((i : ℕ) → i < length A → P (getD A i [])) → ((i : ℕ) → i < length B → P (getD B i []))
+      → (i : ℕ) → i < length (joinedLabels A B) → P (getD (joinedLabels A B) i [])
+  unfolding joinedLabels
+  joined-each P f g i l =
+      let y = getD (joinedLabels A B) i [] in
+      ⊎-elim (inside A f) (inside B g)
+      (places.continued-among sameLabel label-tests [] A B y .0 (places.among-iff sameLabel label-tests [] (joinedLabels A B) y .1 (i, l, refl)))
+    where
+      inside : (C : List (List ℕ)) → ((j : ℕ) → j < length C → P (getD C j [])) → {y : List ℕ} → T (among sameLabel C y) → P y
+      inside C each {y} t = let (j, k, e) = places.among-iff sameLabel label-tests [] C y .0 t in subst P e (each j k)
+
   -- the first's actions keep their labels
   pub joined-first : (a : ℕ) → 1 ≤ a → a ≤ length A → labelOf (joinedLabels A B) a ≡ labelOf A a
   unfolding joinedLabels labelOf

@@ -10,7 +10,7 @@ use lib.ListN.{getD, drop}
 use borrow.Author.Tests.{not-true, not-false}
 use Rattle.lts.specs.declared.Refusal.{Refusal}
 use Rattle.lts.specs.declared.Refusal.the-variants.{Length, Range, Label, StateRecord, TransitionRecord, Unreached, ReachedTwice, Repeated, TooLarge, Grid}
-use Rattle.lts.specs.declared.Refusal.the-variants.{TooManyLabels, NotReflexive, NotTransitive, NoState, TooManyRounds, StillRelated, Unsound, Buffer}
+use Rattle.lts.specs.declared.Refusal.the-variants.{TooManyLabels, NotDecimal, NotReflexive, NotTransitive, NoState, TooManyRounds, StillRelated, Unsound, Buffer}
 use Rattle.lts.specs.Refusal.{refusalNumber, refusalRecord}
 use Rattle.lts.specs.declared.Checked.the-variants.{Passed, Refused}
 use Rattle.lts.specs.Rule.{Rule, _otherwise_, Finding, Nothing, First, broken, checked, Reply, given, check, Decides}
@@ -103,7 +103,7 @@ finding rules = go (broken rules) refl
 listed : ℕ → ℕ → Refusal
 listed k j =
     getD (Length ∷ Length ∷ Range ∷ StateRecord ∷ TransitionRecord ∷ Unreached j ∷ Repeated ∷ TooLarge ∷ Grid ∷ NotReflexive ∷ NotTransitive ∷ NoState
-    ∷ TooManyRounds ∷ StillRelated ∷ Unsound ∷ Buffer ∷ ReachedTwice j ∷ Label ∷ TooManyLabels ∷ []) k Length
+    ∷ TooManyRounds ∷ StillRelated ∷ Unsound ∷ Buffer ∷ ReachedTwice j ∷ Label ∷ TooManyLabels ∷ NotDecimal ∷ []) k Length
 
 number-law : (r : Refusal) → (1 ≤ refusalNumber r) × (refusalNumber r < 256) × (listed (refusalNumber r) (refusalRecord r) ≡ r)
 unfolding listed
@@ -117,6 +117,7 @@ number-law (ReachedTwice j) = (omega arith, omega arith, refl)
 number-law Repeated = (omega arith, omega arith, refl)
 number-law TooLarge = (omega arith, omega arith, refl)
 number-law TooManyLabels = (omega arith, omega arith, refl)
+number-law NotDecimal = (omega arith, omega arith, refl)
 number-law Grid = (omega arith, omega arith, refl)
 number-law NotReflexive = (omega arith, omega arith, refl)
 number-law NotTransitive = (omega arith, omega arith, refl)
@@ -150,6 +151,7 @@ no-record (ReachedTwice j) n = absurd (n .1 refl)
 no-record Repeated n = refl
 no-record TooLarge n = refl
 no-record TooManyLabels n = refl
+no-record NotDecimal n = refl
 no-record Grid n = refl
 no-record NotReflexive n = refl
 no-record NotTransitive n = refl

@@ -8,9 +8,9 @@ use lib.ListN.{length, length-append}
 use Rattle.lts.proofs.Lists.{concat-each}
 use Rattle.lts.specs.System.{Lts}
 use Rattle.lts.specs.Transitions.{Transition, transitions}
-use Rattle.encoding.specs.declared.Header.{Header}
 use Rattle.encoding.specs.declared.TransitionRecord.{TransitionRecord}
-use Rattle.encoding.specs.Records.{two, headerBytes, stateBytes, transitionBytes, labelsLength, encodingLength}
+use Rattle.encoding.specs.Records.{two, stateBytes, transitionBytes, labelsLength, encodingLength}
+use Rattle.encoding.proofs.Parts.{header-length}
 use Rattle.normal_form.specs.Normal.{normalHeader, normalState, statesBytes, transitionsBytes, sheetBytes}
 
 -- ## Lengths
@@ -26,10 +26,6 @@ transitions-length i (x ∷ l) = rw (length-append, record-length, transitions-l
 pub states-length : (L : Lts) (n : ℕ) → length (statesBytes L n) ≡ 4 * n
 unfolding statesBytes stateBytes two
 states-length L n = concat-each (λ p. stateBytes (normalState L p)) 4 n (λ p l. refl)
-
-pub header-length : (h : Header) → length (headerBytes h) ≡ 6
-unfolding headerBytes two
-header-length h = refl
 
 -- with the bytes of all label records
 pub sheet-long : (named : Bool) (labels : List ℕ) (L : Lts) → length labels ≡ labelsLength (normalHeader named L)

@@ -10,7 +10,7 @@ use Rattle.lts.specs.declared.Refusal.the-variants.{Length, Range}
 use Rattle.encoding.specs.declared.Header.{Header}
 use Rattle.encoding.specs.declared.Reading.the-variants.{Readable, Refused}
 use Rattle.encoding.specs.Records.{numberAt, headerOf, labelRecordAt, labelRecord, stateRecordAt, transitionRecordAt, stateRecord, transitionRecord, labelsLength, two, headerBytes, stateBytes, transitionBytes}
-use Rattle.encoding.specs.Labels.{visible, follows, labelFits, labelIn, labelsIn, labelsFit, Labelling, labelsOf, labellingOf, labelsBytes}
+use Rattle.encoding.specs.Labels.{visible, follows, labelFits, labelIn, labelsIn, labelsFit, Labelling, labelsOf, labellingOf, labelsBytes, recordsOf}
 use Rattle.encoding.specs.Encoding.{inRange, stateFits, transitionFits, statesFit, transitionsFit, walk, chain, reached, member, onSomeChain, allReached, indices, occurrences, namedTwice, noneTwice, distinct, successor, successorsFit, headedRules, sheetRules, readEncoding}
 use Rattle.lts.specs.declared.Refusal.{Refusal}
 use Rattle.lts.specs.Places.{among, distinct as distinctBy}
@@ -19,7 +19,7 @@ use Rattle.lts.specs.Rule.{Nothing, broken, checked, Reply, refused as Unreadab
 use Rattle.lts.proofs.Rule.{numbered, passes}
 use Rattle.encoding.specs.Denotation.{any, ltsOf}
 use Rattle.lts.specs.Transitions.{Transition, transitionsTo, transitionsBy, transitionsOf, transitionsBelow, transitions}
-use Rattle.normal_form.specs.Normal.{firstIndex, nextIndex, normalState, normalTransition, statesBytes, transitionsBytes, sheetBytes, recordsOf, normal}
+use Rattle.normal_form.specs.Normal.{firstIndex, nextIndex, normalState, normalTransition, statesBytes, transitionsBytes, sheetBytes, normal}
 use Rattle.normal_form.specs.NormalForm.{before, inOrder, IsNormal, NormalForm}
 use Rattle.normal_form.specs.Normalise.{normaliseRules, normaliseCall, NormalisePromise}
 use Rattle.encoding.proofs.Reader.{readable-of}

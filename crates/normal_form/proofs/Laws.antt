@@ -10,13 +10,13 @@ use Rattle.lts.specs.Rule.{Nothing, First, broken, Reply, refused, given}
 use Rattle.lts.proofs.Rule.{when-broken, when-kept, both-kept}
 use Rattle.encoding.specs.declared.Header.{Header}
 use Rattle.encoding.specs.declared.Reading.the-variants.{Readable}
-use Rattle.encoding.specs.Records.{headerOf}
+use Rattle.encoding.specs.Records.{headerOf, IsBytes}
 use Rattle.encoding.specs.Encoding.{sheetRules, readEncoding}
 use Rattle.encoding.specs.Labels.{Labelling, labellingOf}
 use Rattle.encoding.specs.Denotation.{ltsOf}
 use Rattle.normal_form.specs.Normal.{normalHeader, normal}
 use Rattle.encoding.specs.Checked.{ReadableAs}
-use Rattle.normal_form.specs.NormalForm.{IsNormal, IsBytes, Encodable, NormalForm}
+use Rattle.normal_form.specs.NormalForm.{IsNormal, Encodable, NormalForm}
 use Rattle.normal_form.specs.Normalise.{NormaliseOutcome, normaliseRules, normaliseCall, NormalisePromise}
 use Rattle.encoding.proofs.Reader.{sheet-passed, readable-of, reads}
 use Rattle.normal_form.proofs.Encodable.{labelled-header, sheet-length, sheet-encodable}

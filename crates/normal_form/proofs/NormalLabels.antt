@@ -12,13 +12,13 @@ use Rattle.lts.specs.Labels.{sameLabel}
 use Rattle.lts.proofs.Below.{T-true, all-of, list-ext}
 use Rattle.encoding.specs.declared.Header.{Header}
 use Rattle.encoding.specs.Records.{headerBytes, labelRecordAt, labelRecord}
-use Rattle.encoding.specs.Labels.{labelFits, labelIn, labelsIn, labelsFit, Labelling, labellingOf}
+use Rattle.encoding.specs.Labels.{labelFits, labelIn, labelsIn, labelsFit, Labelling, labellingOf, recordsOf}
 use Rattle.encoding.proofs.Sizes.{labels-all}
 use Rattle.encoding.proofs.Labels.{named-label, labels-length, labels-at}
 use Rattle.encoding.proofs.Laws.{plain-labels}
-use Rattle.normal_form.specs.Normal.{normalHeader, statesBytes, sheetBytes, recordsOf, normal}
+use Rattle.normal_form.specs.Normal.{normalHeader, statesBytes, sheetBytes, normal}
 use Rattle.normal_form.specs.NormalForm.{Encodable}
-use Rattle.normal_form.proofs.Bytes.{header-length}
+use Rattle.encoding.proofs.Parts.{header-length}
 use Rattle.normal_form.proofs.Labelled.{label-byte}
 use Rattle.normal_form.proofs.NormalReads.{front-length, normal-header}
 

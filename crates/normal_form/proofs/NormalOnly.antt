@@ -15,13 +15,12 @@ use Rattle.lts.specs.Bounded.{concatBelow}
 use Rattle.encoding.specs.declared.Header.{Header}
 use Rattle.encoding.specs.declared.StateRecord.{StateRecord}
 use Rattle.encoding.specs.declared.TransitionRecord.{TransitionRecord}
-use Rattle.encoding.specs.Records.{numberAt, headerOf, stateRecordAt, transitionRecordAt, labelsLength, encodingLength, stateRecord, transitionRecord}
-use Rattle.encoding.specs.Labels.{labellingOf}
+use Rattle.encoding.specs.Records.{numberAt, headerOf, stateRecordAt, transitionRecordAt, labelsLength, encodingLength, stateRecord, transitionRecord, IsBytes}
+use Rattle.encoding.specs.Labels.{labellingOf, recordsOf}
 use Rattle.encoding.specs.Encoding.{walk, chain, reached, member, successor, stateFits, statesFit, transitionFits, transitionsFit}
 use Rattle.encoding.specs.Checked.{ReadableAs}
 use Rattle.encoding.specs.Denotation.{ltsOf}
-use Rattle.normal_form.specs.Normal.{recordsOf}
-use Rattle.normal_form.specs.NormalForm.{IsNormal, IsBytes}
+use Rattle.normal_form.specs.NormalForm.{IsNormal}
 use Rattle.lts.proofs.Below.{all-at}
 use Rattle.lts.proofs.Lists.{Every}
 use Rattle.encoding.proofs.Chains.{transition-known}
@@ -29,7 +28,8 @@ use Rattle.encoding.proofs.Denotation.{transition-member, mark-byte}
 use Rattle.transitions.proofs.Codes.{Rising, rising-out}
 use Rattle.encoding.proofs.Counting.{Good, good-successors}
 use Rattle.encoding.proofs.Members.{member-keeps}
-use Rattle.normal_form.proofs.Labelled.{labels-from, sheet-records}
+use Rattle.encoding.proofs.Parts.{labels-from}
+use Rattle.normal_form.proofs.Labelled.{sheet-records}
 use Rattle.normal_form.proofs.Ordered.{chain-ends, chain-rising, each-record}
 
 -- ## Rising lists with the same members are equal
@@ -274,7 +274,7 @@ module _ (u v : List ℕ) (h : Header) (gu : ReadableAs u h) (gv : ReadableAs v 
     labels : labellingOf u ≡ labellingOf v → (i : ℕ) → i < labelsLength h → getD u (6 + i) 0 ≡ getD v (6 + i) 0
     labels k i l =
         let same = sym (sheet-records u h gu) ∙ ap recordsOf k ∙ sheet-records v h gv in
-        sym (labels-from u h gu i l) ∙ ap (λ (x : List ℕ). getD x i 0) same ∙ labels-from v h gv i l
+        sym (labels-from u h i l) ∙ ap (λ (x : List ℕ). getD x i 0) same ∙ labels-from v h i l
 
     pub only-one : IsBytes u → IsBytes v → labellingOf u ≡ labellingOf v → u ≡ v
     only-one bu bv k =

@@ -11,12 +11,12 @@ use Rattle.lts.specs.Bounded.{listBelow}
 use Rattle.encoding.specs.declared.Header.{Header}
 use Rattle.encoding.specs.declared.StateRecord.{StateRecord}
 use Rattle.encoding.specs.declared.TransitionRecord.{TransitionRecord}
-use Rattle.encoding.specs.Records.{two, headerBytes, stateBytes, transitionBytes}
-use Rattle.encoding.specs.Labels.{Labelling}
+use Rattle.encoding.specs.Records.{two, headerBytes, stateBytes, transitionBytes, IsBytes}
+use Rattle.encoding.specs.Labels.{Labelling, recordsOf}
 use Rattle.lts.specs.System.{Lts}
 use Rattle.lts.specs.Transitions.{Transition, transitions}
-use Rattle.normal_form.specs.Normal.{normalHeader, normalState, normalTransition, statesBytes, transitionsBytes, sheetBytes, recordsOf, normal}
-use Rattle.normal_form.specs.NormalForm.{IsNormal, IsBytes, Encodable}
+use Rattle.normal_form.specs.Normal.{normalHeader, normalState, normalTransition, statesBytes, transitionsBytes, sheetBytes, normal}
+use Rattle.normal_form.specs.NormalForm.{IsNormal, Encodable}
 use Rattle.lts.proofs.Lists.{Every, every-append, every-at, every-more, concat-keeps}
 use Rattle.lts.proofs.Transitions.{Sourced, all-keep}
 use Rattle.transitions.proofs.Codes.{codes-up}

@@ -1,58 +1,31 @@
 -- The header and the records of a normal form are read back as they were written.
-use Prim.Native.Nat.{ℕ, zero, suc, _+_, _*_, _-_, _≤_, _<_, _/_, _%_}
+use Prim.Native.Nat.{ℕ, zero, suc, _+_, _*_, _-_, _≤_, _<_}
 use mathlib.Core.Path.{_≡_, refl, _∙_}
 use mathlib.Core.Bool.{Bool, true, false, cond}
 use mathlib.Core.List.{List, [], _∷_, _++_, append-assoc}
 use native.Mathlib.Omega.{arith}
-use borrow.Author.Tests.{le-leb, lt-leb}
 use native.Mathlib.Nat.{not-suc-le-zero, zero-add, add-zero}
 use native.Mathlib.Numerals.{one-add}
 use lib.ListN.{length, getD, drop, length-append, List·getD-append}
 use lib.Seq.{getD-append-add}
-use lib.Dec.{eqb, leb}
+use lib.Dec.{eqb}
 use Rattle.lts.specs.Bounded.{concatBelow}
 use Rattle.encoding.specs.declared.Header.{Header}
 use Rattle.encoding.specs.declared.StateRecord.{StateRecord}
 use Rattle.encoding.specs.declared.TransitionRecord.{TransitionRecord}
 use Rattle.encoding.specs.Records.{numberAt, two, headerOf, headerBytes, stateRecordAt, stateBytes, transitionRecordAt, transitionBytes, labelsLength, stateRecord, transitionRecord}
-use Rattle.encoding.specs.Labels.{Labelling}
+use Rattle.encoding.specs.Labels.{Labelling, recordsOf}
 use Rattle.lts.specs.System.{Lts}
 use Rattle.lts.specs.Transitions.{Transition, transitionsBelow, transitions}
-use Rattle.normal_form.specs.Normal.{firstIndex, nextIndex, normalHeader, normalState, normalTransition, statesBytes, transitionsBytes, sheetBytes, recordsOf, normal}
+use Rattle.normal_form.specs.Normal.{firstIndex, nextIndex, normalHeader, normalState, normalTransition, statesBytes, transitionsBytes, sheetBytes, normal}
 use Rattle.normal_form.specs.NormalForm.{Encodable}
 use Rattle.lts.proofs.Lists.{concat-at}
 use Rattle.lts.proofs.Transitions.{nth, every-nth, Sourced, all-keep, up-grows}
-use Rattle.normal_form.proofs.Bytes.{record-length, states-length, header-length}
+use Rattle.encoding.proofs.Parts.{back, header-back, header-length}
+use Rattle.normal_form.proofs.Bytes.{record-length, states-length}
 use Rattle.normal_form.proofs.Labelled.{records-length}
 
 -- ## What is written is read back
-back : (x : ℕ) → x < 65536 → x % 256 + 256 * (x / 256 % 256) ≡ x
-back x l = omega arith
-
--- the first number: the count of states and the kind
-count-back : (n : ℕ) (b : Bool) → n < 32768 → (n + cond b 32768 0) % 32768 ≡ n
-count-back n true l = omega arith
-count-back n false l = omega arith
-
-kind-back : (n : ℕ) (b : Bool) → n < 32768 → leb 32768 (n + cond b 32768 0) ≡ b
-kind-back n true l = le-leb 32768 (n + 32768) (omega arith)
-kind-back n false l = lt-leb 32768 (n + 0) (omega arith)
-
-first-small : (n : ℕ) (b : Bool) → n < 32768 → n + cond b 32768 0 < 65536
-first-small n true l = omega arith
-first-small n false l = omega arith
-
-header-back : (h : Header) (l : List ℕ) → h .states < 32768 → h .actions < 65536 → h .transitions < 65536 → headerOf (headerBytes h ++ l) ≡ h
-unfolding headerOf headerBytes numberAt two
-header-back h l a b c =
-    rw (back (h .states + cond (h .named) 32768 0) (first-small (h .states) (h .named) a), back (h .actions) b, back (h .transitions) c)
-    (λ i. record {
-      states = count-back (h .states) (h .named) a i;
-      actions = h .actions;
-      transitions = h .transitions;
-      named = kind-back (h .states) (h .named) a i;
-    })
-
 state-back : (s : List ℕ) (i : ℕ) (r : StateRecord) → r .first < 65536 → ((j : ℕ) → j < 4 → getD s (i + j) 0 ≡ getD (stateBytes r) j 0) → stateRecordAt s i ≡ r
 unfolding stateRecordAt numberAt stateBytes two
 state-back s i r l e =

@@ -24,7 +24,8 @@ use Rattle.normal_form.specs.Normal.{normalHeader, sheetBytes, normal}
 use Rattle.normal_form.specs.Normalise.{normaliseRules, normaliseCall, NormalisePromise}
 use Rattle.encoding.proofs.Reader.{readable-of, sheet-broken, sheet-kept}
 use Rattle.normal_form.proofs.Encodable.{sheet-header, sheet-length}
-use Rattle.normal_form.proofs.Labelled.{labels-size, sheet-records}
+use Rattle.encoding.proofs.Parts.{labels-size}
+use Rattle.normal_form.proofs.Labelled.{sheet-records}
 use Rattle.normal_form.proofs.Laws.{normalise-promised}
 
 -- what `normalise` says of its answer r and of the bytes o that it leaves
@@ -53,7 +54,7 @@ module _ (s out : List ℕ) where
     table-header = ap (normalHeader (h .named)) (k .same) ∙ sheet-header (readable-of e)
 
     pub labels-fill : (labels : List ℕ) → labels ≡ labelRecords s h → length labels ≡ labelsLength (normalHeader (h .named) (tableLts t))
-    labels-fill labels q = ap length q ∙ labels-size s h (readable-of e) ∙ ap labelsLength (sym table-header)
+    labels-fill labels q = ap length q ∙ labels-size s h (readable-of e .recorded .sized) ∙ ap labelsLength (sym table-header)
 
     pub fills : encodingLength (normalHeader (h .named) (tableLts t)) ≡ length out
     fills = ap encodingLength table-header ∙ sym (readable-of e .recorded .sized .long) ∙ sym n

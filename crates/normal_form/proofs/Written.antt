@@ -23,7 +23,8 @@ use Rattle.normal_form.specs.Normal.{firstIndex, nextIndex, normalHeader
 use Rattle.normal_form.specs.Written.{Counts, transitionsFrom}
 use Rattle.transitions.proofs.Filled.{transitions-count}
 use Rattle.normal_form.proofs.Tables.{from-more, from-none}
-use Rattle.normal_form.proofs.Bytes.{record-length, states-length, header-length, sheet-long, mark-small}
+use Rattle.encoding.proofs.Parts.{header-length}
+use Rattle.normal_form.proofs.Bytes.{record-length, states-length, sheet-long, mark-small}
 use Rattle.normal_form.proofs.Encodable.{table-bounds}
 
 -- ## State records, one after the other

@@ -12,7 +12,7 @@ use Rattle.encoding.specs.declared.Header.{Header}
 use Rattle.encoding.specs.declared.StateRecord.{StateRecord}
 use Rattle.encoding.specs.declared.TransitionRecord.{TransitionRecord}
 use Rattle.encoding.specs.Records.{headerBytes, stateBytes, transitionBytes}
-use Rattle.encoding.specs.Labels.{Labelling, labelsBytes}
+use Rattle.encoding.specs.Labels.{Labelling, recordsOf}
 
 -- the first index of a state whose transitions stand after the first i and up to the first j of all; 0 where it has none
 unfoldable pub firstIndex : ℕ → ℕ → ℕ
@@ -48,10 +48,6 @@ transitionsBytes i (x ∷ l) = transitionBytes (normalTransition i x l) ++ trans
 -- a sheet of the Lts, with the bytes of its labels between header and records
 unfoldable pub sheetBytes : Bool → List ℕ → Lts → List ℕ
 sheetBytes named labels L = headerBytes (normalHeader named L) ++ labels ++ statesBytes L (L .states) ++ transitionsBytes 1 (transitions L)
-
--- the label records of a sheet: a plain one has none
-unfoldable pub recordsOf : Labelling → List ℕ
-recordsOf K = cond (K .named) (labelsBytes (K .labels)) []
 
 unfoldable pub normal : Labelling → Lts → List ℕ
 normal K L = sheetBytes (K .named) (recordsOf K) L

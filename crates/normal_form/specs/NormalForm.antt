@@ -12,13 +12,13 @@ use Rattle.lts.specs.System.{Lts, WellFormed}
 use Rattle.encoding.specs.declared.Header.{Header}
 use Rattle.encoding.specs.declared.TransitionRecord.{TransitionRecord}
 use Rattle.encoding.specs.declared.Reading.the-variants.{Readable}
-use Rattle.encoding.specs.Records.{transitionRecord}
+use Rattle.encoding.specs.Records.{IsBytes, transitionRecord}
 use Rattle.encoding.specs.Encoding.{reached, readEncoding}
 use Rattle.encoding.specs.Denotation.{ltsOf}
 use Rattle.encoding.specs.Checked.{Bounds}
 use Rattle.lts.specs.Places.{distinct}
 use Rattle.lts.specs.Labels.{sameLabel}
-use Rattle.encoding.specs.Labels.{Labelling, labellingOf, decimalLabel, labelFits}
+use Rattle.encoding.specs.Labels.{Labelling, labellingOf, decimalLabels, labelFits}
 use Rattle.normal_form.specs.Normal.{normalHeader}
 
 -- r comes before q: by action, then target
@@ -36,14 +36,10 @@ pub record IsNormal (s : List ℕ) (h : Header) : Type 0 where
   -- then by action, then target, along each chain
   pub ordered : allBelow (h .transitions) (λ i. inOrder s h (i + 1)) ≡ true
 
--- each number is below 256 (those of a slice of bytes are)
-abbrev pub IsBytes : List ℕ → Type 0
-IsBytes s = (i : ℕ) → i < length s → getD s i 0 < 256
-
 -- labels that a sheet of m actions can hold: one for each action; in a plain sheet the decimal digits, in a named one names, none twice
 pub record Labelled (K : Labelling) (m : ℕ) : Type 0 where
   pub count : length (K .labels) ≡ m
-  pub plain : K .named ≡ false → K .labels ≡ listBelow m (λ i. decimalLabel (suc i))
+  pub plain : K .named ≡ false → K .labels ≡ decimalLabels m
   pub long : (i : ℕ) → i < m → length (getD (K .labels) i []) ≡ 16
   pub fit : (i : ℕ) → i < m → labelFits (getD (K .labels) i []) ≡ true
   pub once : T (distinct sameLabel (K .labels))

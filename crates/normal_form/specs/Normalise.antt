@@ -20,7 +20,7 @@ pub record NormaliseOutcome : Type 0 where
   pub reply : Reply
   pub out : List ℕ
 
--- the sheet first (1 to 6), then the buffer, which has the sheet's own length (15)
+-- the sheet first (1 to 6, 16, 17), then the buffer, which has the sheet's own length (15)
 unfoldable pub normaliseRules : List ℕ → List ℕ → List Rule
 normaliseRules s out = sheetRules s ++ eqb (length out) (length s) otherwise Buffer ∷ []
 

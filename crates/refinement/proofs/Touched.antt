@@ -5,6 +5,7 @@ use mathlib.Core.List.{List, _++_}
 use Prim.Native.Nat.{ℕ, _≤_, _<_}
 use native.Mathlib.Omega.{arith}
 use lib.ListN.{length, drop, replicate}
+use Rattle.lts.proofs.Below.{neither}
 use Rattle.lts.specs.System.{Set, Rel}
 use Rattle.rows.specs.Rows.{inRow, rowOf, statesBelow}
 use Rattle.relation.specs.Matrix.{relationOf, matrixOf}
@@ -75,10 +76,6 @@ module _ (n : ℕ) (related blocks touched rows touched′ : List ℕ) (small : 
     (union : touched′ ≡ rowOf 4 (λ q. inRow touched q || inRow rows q) ++ drop 4 touched) where
   long-next : length touched′ ≡ 4
   long-next = ap length union ∙ length-written 4 (λ q. inRow touched q || inRow rows q) touched (omega (arith, long)) ∙ long
-
-  neither : (a b : Bool) → a || b ≡ false → (a ≡ false) × (b ≡ false)
-  neither false b e = (refl, e)
-  neither true b e = absurd (true≢false e)
 
   apart : (g : ℕ) → g < n → inRow touched′ g ≡ false → (inRow touched g ≡ false) × (inRow rows g ≡ false)
   apart g h e = neither (inRow touched g) (inRow rows g)

@@ -1,22 +1,22 @@
 -- What each export says, from what its call says: of the reply that the result unpacks to.
 use Prim.Native.Nat.{ℕ}
-use mathlib.Core.Path.{_≡_, sym, ap, subst, _∙_}
+use mathlib.Core.Path.{_≡_, ap, _∙_}
 use mathlib.Core.List.{List}
 use Rattle.lts.specs.declared.Entry.{Entry}
 use Rattle.lts.specs.Rule.{Reply}
-use Rattle.normal_form.specs.Normalise.{NormaliseOutcome, normaliseCall, NormalisePromise}
-use Rattle.simulation.specs.Calls.{TerminationOutcome, simulationCall, SimulationPromise}
+use Rattle.normal_form.specs.Normalise.{normaliseCall, NormalisePromise}
+use Rattle.conversion.specs.Conversion.{toNamedCall, toPlainCall, ToNamedPromise, ToPlainPromise}
+use Rattle.simulation.specs.Calls.{simulationCall, SimulationPromise}
 use Rattle.game.specs.Play.{playCall, PlayPromise}
 use Rattle.comparison.specs.Call.{compareCall, ComparePromise}
-use Rattle.disjoint_union.specs.Join.{JoinOutcome, joinCall, JoinPromise}
+use Rattle.disjoint_union.specs.Join.{joinCall, JoinPromise}
 use Rattle.strategy.specs.Check.{checkCall, CheckPromise}
-use Rattle.strategy.specs.Write.{WriteOutcome, writeCall, WritePromise}
+use Rattle.strategy.specs.Write.{writeCall, WritePromise}
 use Rattle.strategy_bytes.specs.Bytes.{entryBytes, entriesOfBytes}
-use Rattle.coarsest.specs.Call.{CoarsestOutcome}
 use Rattle.coarsest_bytes.specs.Call.{coarsestOnBytes, CoarsestBytesPromise}
 use Rattle.release.specs.Packed.{packed, unpacked, coarsestPlaces, comparePlaces, pairPlaces, onePlace, noPlace}
 use Rattle.release.specs.EndStart.{endStartOnBytes, EndStartBytesPromise}
-use Rattle.release.proofs.Replies.{Kept, carried, exact, exported}
+use Rattle.release.proofs.Replies.{Kept, carried, exact, left, exported}
 use Rattle.release.proofs.EndStarts.{end-start-promised}
 
 pub compare-exported : {first second : List ℕ} {reply : Reply} {x : ℕ} → compareCall first second ≡ reply → ComparePromise first second reply
@@ -41,17 +41,25 @@ pub join-exported : {first second out₀ out : List ℕ} {reply : Reply} {x : �
     → JoinPromise first second out₀ reply out → x ≡ packed onePlace reply → Kept onePlace reply
     → (joinCall first second out₀ ≡ record { reply = unpacked onePlace x; out = out })
     × ((x ≡ packed onePlace (unpacked onePlace x)) × JoinPromise first second out₀ (unpacked onePlace x) out)
-join-exported {first} {second} {out₀} {out} e p k l =
-    let c = carried onePlace k l in
-    (e ∙ ap (λ (y : Reply). record { reply = y; out = out }) c, (exact onePlace k l, subst (λ (y : Reply). JoinPromise first second out₀ y out) c p))
+join-exported {first} {second} {out₀} {out} = left onePlace (λ (y : Reply). record { reply = y; out = out }) (λ (y : Reply). JoinPromise first second out₀ y out)
 
 pub normalise-exported : {s out₀ out : List ℕ} {reply : Reply} {x : ℕ} → normaliseCall s out₀ ≡ record { reply = reply; out = out }
     → NormalisePromise s out₀ reply out → x ≡ packed noPlace reply → Kept noPlace reply
     → (normaliseCall s out₀ ≡ record { reply = unpacked noPlace x; out = out })
     × ((x ≡ packed noPlace (unpacked noPlace x)) × NormalisePromise s out₀ (unpacked noPlace x) out)
-normalise-exported {s} {out₀} {out} e p k l =
-    let c = carried noPlace k l in
-    (e ∙ ap (λ (y : Reply). record { reply = y; out = out }) c, (exact noPlace k l, subst (λ (y : Reply). NormalisePromise s out₀ y out) c p))
+normalise-exported {s} {out₀} {out} = left noPlace (λ (y : Reply). record { reply = y; out = out }) (λ (y : Reply). NormalisePromise s out₀ y out)
+
+pub to-named-exported : {s out₀ out : List ℕ} {reply : Reply} {x : ℕ} → toNamedCall s out₀ ≡ record { reply = reply; out = out }
+    → ToNamedPromise s out₀ reply out → x ≡ packed noPlace reply → Kept noPlace reply
+    → (toNamedCall s out₀ ≡ record { reply = unpacked noPlace x; out = out })
+    × ((x ≡ packed noPlace (unpacked noPlace x)) × ToNamedPromise s out₀ (unpacked noPlace x) out)
+to-named-exported {s} {out₀} {out} = left noPlace (λ (y : Reply). record { reply = y; out = out }) (λ (y : Reply). ToNamedPromise s out₀ y out)
+
+pub to-plain-exported : {s out₀ out : List ℕ} {reply : Reply} {x : ℕ} → toPlainCall s out₀ ≡ record { reply = reply; out = out }
+    → ToPlainPromise s out₀ reply out → x ≡ packed noPlace reply → Kept noPlace reply
+    → (toPlainCall s out₀ ≡ record { reply = unpacked noPlace x; out = out })
+    × ((x ≡ packed noPlace (unpacked noPlace x)) × ToPlainPromise s out₀ (unpacked noPlace x) out)
+to-plain-exported {s} {out₀} {out} = left noPlace (λ (y : Reply). record { reply = y; out = out }) (λ (y : Reply). ToPlainPromise s out₀ y out)
 
 pub end-start-exported : {s grid₀ grid : List ℕ} {reply : Reply} {x : ℕ} → endStartOnBytes s grid₀ ≡ record { reply = reply; grid = grid }
     → x ≡ packed noPlace reply → Kept noPlace reply
@@ -67,11 +75,9 @@ pub coarsest-exported : {s start schedule grid₀ representatives₀ grid repres
     → (coarsestOnBytes s start schedule grid₀ representatives₀ ≡ record { reply = unpacked coarsestPlaces x; grid = grid; representatives = representatives })
     × ((x ≡ packed coarsestPlaces (unpacked coarsestPlaces x))
     × CoarsestBytesPromise s start schedule grid₀ representatives₀ (unpacked coarsestPlaces x) grid representatives)
-coarsest-exported {s} {start} {schedule} {grid₀} {representatives₀} {grid} {representatives} e p k l =
-    let c = carried coarsestPlaces k l in (
-      e ∙ ap (λ (y : Reply). record { reply = y; grid = grid; representatives = representatives }) c,
-      (exact coarsestPlaces k l, subst (λ (y : Reply). CoarsestBytesPromise s start schedule grid₀ representatives₀ y grid representatives) c p),
-    )
+coarsest-exported {s} {start} {schedule} {grid₀} {representatives₀} {grid} {representatives} =
+    left coarsestPlaces (λ (y : Reply). record { reply = y; grid = grid; representatives = representatives })
+    (λ (y : Reply). CoarsestBytesPromise s start schedule grid₀ representatives₀ y grid representatives)
 
 pub check-exported : {s start words : List ℕ} {entries : List Entry} {reply : Reply} {x : ℕ} → words ≡ start → checkCall s words entries ≡ reply
     → CheckPromise s words entries reply → x ≡ packed pairPlaces reply → Kept pairPlaces reply
@@ -85,8 +91,5 @@ pub write-exported : {s start words plan₀ plan : List ℕ} {p q : ℕ} {reply 
     → (writeCall entryBytes 8 s start p q plan₀ ≡ record { reply = unpacked onePlace x; plan = plan })
     × ((x ≡ packed onePlace (unpacked onePlace x)) × WritePromise entriesOfBytes 8 s start p q plan₀ (unpacked onePlace x) plan)
 write-exported {s} {start} {words} {plan₀} {plan} {p} {q} w e h k l =
-    let c = carried onePlace k l in
-    rw (← w) (
-      e ∙ ap (λ (y : Reply). record { reply = y; plan = plan }) c,
-      (exact onePlace k l, subst (λ (y : Reply). WritePromise entriesOfBytes 8 s words p q plan₀ y plan) c h),
-    )
+    rw (← w) (left onePlace (λ (y : Reply). record { reply = y; plan = plan })
+    (λ (y : Reply). WritePromise entriesOfBytes 8 s words p q plan₀ y plan) e h k l)

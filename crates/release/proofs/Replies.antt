@@ -1,7 +1,7 @@
 -- The replies of the calls, packed and unpacked again, and what an export says of its result.
-use Prim.Native.Nat.{ℕ, _+_, _*_, _≤_, _<_}
+use Prim.Native.Nat.{ℕ, _+_, _*_, _<_}
 use native.Mathlib.Omega.{arith}
-use mathlib.Core.Path.{_≡_, refl, sym, ap, subst, _∙_}
+use mathlib.Core.Path.{_≡_, sym, ap, subst, _∙_}
 use mathlib.Core.List.{List, [], _∷_}
 use Rattle.lts.specs.declared.Refusal.{Refusal}
 use Rattle.lts.specs.Refusal.{refusalNumber, refusalRecord}
@@ -33,11 +33,17 @@ module _ (places : List ℕ) {reply : Reply} {x : ℕ} (packs : x ≡ packed pla
   pub exact : x ≡ packed places (unpacked places x)
   exact = packs ∙ ap (packed places) carried
 
--- with no buffer: the call's equation and its promise, of the reply that the result unpacks to
+-- the call's equation and its promise, of the reply that the result unpacks to; the outcome is made of the reply and the buffers afterwards
+pub left : {A : Type 0} (places : List ℕ) (outcome : Reply → A) {call : A} {reply : Reply} {x : ℕ} (Promise : Reply → Type 0)
+    → call ≡ outcome reply → Promise reply → x ≡ packed places reply → Kept places reply
+    → (call ≡ outcome (unpacked places x)) × ((x ≡ packed places (unpacked places x)) × Promise (unpacked places x))
+left places outcome Promise e p packs kept =
+    let c = carried places packs kept in (e ∙ ap outcome c, (exact places packs kept, subst Promise c p))
+
+-- with no buffer the outcome is the reply
 pub exported : (places : List ℕ) {call reply : Reply} {x : ℕ} (Promise : Reply → Type 0) → call ≡ reply → Promise reply → x ≡ packed places reply → Kept places reply
     → (call ≡ unpacked places x) × ((x ≡ packed places (unpacked places x)) × Promise (unpacked places x))
-exported places Promise e p packs kept =
-    let c = carried places packs kept in (e ∙ c, (exact places packs kept, subst Promise c p))
+exported places = left places (λ y. y)
 
 -- a number that packs one answer's reply packs an equal answer's
 pub packs-same : {A : Type 0} (places : List ℕ) (reply : A → Reply) {a b : A} {x : ℕ} → a ≡ b → x ≡ packed places (reply b) → x ≡ packed places (reply a)

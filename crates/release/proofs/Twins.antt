@@ -1,27 +1,30 @@
 -- A plain sheet and the named sheet with decimal names of the same records: every call but normalise and join gives the same reply and the
 -- same buffers for both (document 02, L2). The text of flowcheck is in `listing/proofs/Twins.antt`.
-use Prim.Native.Nat.{ℕ, _*_, _/_}
+use Prim.Native.Nat.{ℕ, suc, _*_, _/_}
+use native.Mathlib.Omega.{arith}
 use mathlib.Core.Path.{_≡_, refl, sym, ap, ap₂, _∙_}
 use mathlib.Core.Logic.{⊎-elim}
-use mathlib.Core.Bool.{cond, _&&_}
+use mathlib.Core.Bool.{Bool, true, false, cond, _&&_}
 use mathlib.Core.List.{List, [], _∷_, _++_}
 use lib.Dec.{eqb, leb}
 use lib.ListN.{length, drop}
 use Rattle.lts.specs.declared.Entry.{Entry}
-use Rattle.lts.specs.declared.Refusal.the-variants.{Grid, StillRelated, Unsound, Buffer}
+use Rattle.lts.specs.declared.Refusal.the-variants.{NotDecimal, Grid, StillRelated, Unsound, Buffer}
 use Rattle.lts.specs.System.{Lts, terminationPreorder}
 use Rattle.lts.specs.Rounds.{refutationRound}
 use Rattle.lts.specs.Strategy.{accepted, strategyLength, strategy}
 use Rattle.lts.specs.Game.{challengerWins}
 use Rattle.lts.specs.Union.{comparison, simulated}
 use Rattle.lts.specs.Labels.{joinedSecond}
-use Rattle.lts.specs.Rule.{_otherwise_, broken, Reply, refused, given}
+use Rattle.lts.specs.Rule.{Rule, _otherwise_, broken, Reply, refused, given}
 use Rattle.lts.proofs.Rule.{refuses, passes, finding}
 use Rattle.rows.specs.Rows.{rowWords}
 use Rattle.relation.specs.Matrix.{relationOf, matrixOf}
 use Rattle.relation.specs.Check.{isMatrix}
-use Rattle.encoding.specs.Records.{headerOf}
-use Rattle.encoding.specs.Labels.{labelsOf}
+use Rattle.encoding.specs.declared.Header.{Header}
+use Rattle.encoding.specs.Records.{headerOf, headerBytes, ofKind, encodingLength, systemRecords}
+use Rattle.encoding.specs.Labels.{labelsOf, recordsOf}
+use Rattle.encoding.proofs.Labels.{named-label}
 use Rattle.encoding.specs.declared.Reading.the-variants.{Readable, Refused}
 use Rattle.encoding.specs.Encoding.{sheetRules, readEncoding}
 use Rattle.encoding.specs.Read.{readingReply}
@@ -30,6 +33,8 @@ use Rattle.encoding.proofs.Twins.{Twins, twin-lts, twin-labels, twin-broken}
 use Rattle.inputs.specs.Inputs.{inputRules, pairRules}
 use Rattle.inputs.specs.Both.{bothRules}
 use Rattle.inputs.proofs.Twins.{append-same, checked-same, inputs-same, pair-same, first-same, second-same}
+use Rattle.conversion.specs.Conversion.{inKind, namedInDecimal, fits, toNamedRules, toPlainRules, ConversionOutcome, conversion, toNamedCall, toPlainCall}
+use Rattle.conversion.proofs.Rules.{plain-decimal, decimal-all}
 use Rattle.simulation.specs.Calls.{TerminationOutcome, terminationRules, terminationCall, isInside, simulationRules, simulationCall}
 use Rattle.game.specs.Play.{playRules, playCall}
 use Rattle.coarsest.specs.Call.{CoarsestOutcome, coarsestRules, refined, coarsestCall}
@@ -62,6 +67,43 @@ module _ {s t : List ℕ} (w : Twins s t) where
       counts : given (headerOf s .states ∷ headerOf s .actions ∷ headerOf s .transitions ∷ [])
           ≡ given (headerOf t .states ∷ headerOf t .actions ∷ headerOf t .transitions ∷ [])
       counts = λ i. given (w .states i ∷ w .actions i ∷ w .transitions i ∷ [])
+
+  -- ## To named and to plain
+  kind-same : (named : Bool) → ofKind named (headerOf s) ≡ ofKind named (headerOf t)
+  kind-same named = λ i. record { states = w .states i; actions = w .actions i; transitions = w .transitions i; named = named }
+
+  in-kind-same : (named : Bool) → inKind named s ≡ inKind named t
+  unfolding inKind
+  in-kind-same named =
+      ap₂ (λ (h : Header) (l : List (List ℕ)). headerBytes h ++ recordsOf (record { named = named; labels = l }) ++ systemRecords s (headerOf s))
+      (kind-same named) (twin-labels w)
+      ∙ ap (λ (r : List ℕ). headerBytes (ofKind named (headerOf t)) ++ recordsOf (record { named = named; labels = labelsOf t }) ++ r) (w .records)
+
+  decimal-same : namedInDecimal s (headerOf s) ≡ namedInDecimal t (headerOf t)
+  decimal-same =
+      plain-decimal s (headerOf s) (w .plain)
+      ∙ sym (decimal-all t (headerOf t) (λ i l.
+      named-label t (headerOf t) (suc i) (w .named) ∙ w .names (suc i) (omega arith) (omega (arith, l, w .actions))))
+
+  converted-same : (named : Bool) (rules others : List Rule) (out : List ℕ) → broken rules ≡ broken others
+      → conversion named rules s out ≡ conversion named others t out
+  unfolding conversion
+  converted-same named rules others out e =
+      checked-same rules others (λ r. record { reply = refused r; out = out }) e
+      (ap {B = ConversionOutcome} (λ (l : List ℕ). record { reply = given []; out = l }) (in-kind-same named))
+
+  pub to-named-same : (out : List ℕ) → toNamedCall s out ≡ toNamedCall t out
+  unfolding toNamedRules fits
+  to-named-same out = converted-same true (toNamedRules s out) (toNamedRules t out) out
+      (append-same (sheetRules s) (sheetRules t) _ _ (twin-broken w)
+      (ap (λ (h : Header). broken (eqb (length out) (encodingLength h) otherwise Buffer ∷ [])) (kind-same true)))
+
+  pub to-plain-same : (out : List ℕ) → toPlainCall s out ≡ toPlainCall t out
+  unfolding toPlainRules fits
+  to-plain-same out = converted-same false (toPlainRules s out) (toPlainRules t out) out
+      (append-same (sheetRules s) (sheetRules t) _ _ (twin-broken w)
+      (ap₂ (λ (b : Bool) (h : Header). broken (b otherwise NotDecimal ∷ eqb (length out) (encodingLength h) otherwise Buffer ∷ []))
+      decimal-same (kind-same false)))
 
   -- ## End start, on words and on bytes
   end-rules : (grid : List ℕ) → broken (terminationRules s grid) ≡ broken (terminationRules t grid)

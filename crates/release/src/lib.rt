@@ -6,6 +6,7 @@ ghost use Rattle.lts.specs.Refusal.{refusalNumber, refusalRecord};
 ghost use Rattle.lts.specs.Rule.{checkedReply};
 ghost use Rattle.carry.specs.Bytes.{wordsOf};
 ghost use Rattle.normal_form.specs.Normalise.{normaliseCall, NormalisePromise};
+ghost use Rattle.conversion.specs.Conversion.{toNamedCall, toPlainCall, ToNamedPromise, ToPlainPromise};
 ghost use Rattle.simulation.specs.Calls.{simulationReply, simulationCall, SimulationPromise};
 ghost use Rattle.game.specs.Play.{playReply, playCall, PlayPromise};
 ghost use Rattle.coarsest.specs.declared.Answer.the-variants.{Done};
@@ -129,6 +130,26 @@ pub extern "C" fn flow_normalise(s: &[u8], out: &mut [u8]) -> u64
     ensures { λ r. ⌜ NormalisePromise (now (s .entry)) (now (out .entry)) (unpacked noPlace r) (now (out .exit)) ⌝ }
 {
     pack_checked(normal_form::normalise(s, out))
+}
+
+// To named, into a buffer of the named sheet's length.
+#[no_mangle]
+pub extern "C" fn flow_to_named(s: &[u8], out: &mut [u8]) -> u64
+    ensures { λ r. ⌜ toNamedCall (now (s .entry)) (now (out .entry)) ≡ record { reply = unpacked noPlace r; out = now (out .exit) } ⌝ }
+    ensures { λ r. ⌜ r ≡ packed noPlace (unpacked noPlace r) ⌝ }
+    ensures { λ r. ⌜ ToNamedPromise (now (s .entry)) (now (out .entry)) (unpacked noPlace r) (now (out .exit)) ⌝ }
+{
+    pack_checked(conversion::to_named(s, out))
+}
+
+// To plain, into a buffer of the plain sheet's length.
+#[no_mangle]
+pub extern "C" fn flow_to_plain(s: &[u8], out: &mut [u8]) -> u64
+    ensures { λ r. ⌜ toPlainCall (now (s .entry)) (now (out .entry)) ≡ record { reply = unpacked noPlace r; out = now (out .exit) } ⌝ }
+    ensures { λ r. ⌜ r ≡ packed noPlace (unpacked noPlace r) ⌝ }
+    ensures { λ r. ⌜ ToPlainPromise (now (s .entry)) (now (out .entry)) (unpacked noPlace r) (now (out .exit)) ⌝ }
+{
+    pack_checked(conversion::to_plain(s, out))
 }
 
 // Hand play.

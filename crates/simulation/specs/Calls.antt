@@ -28,7 +28,7 @@ pub record TerminationOutcome : Type 0 where
   pub reply : Reply
   pub grid : List ℕ
 
--- the sheet first (1 to 6), then the buffer's length (15)
+-- the sheet first (1 to 6, 16, 17), then the buffer's length (15)
 unfoldable pub terminationRules : List ℕ → List ℕ → List Rule
 terminationRules s grid = let n = headerOf s .states in sheetRules s ++ eqb (length grid) (n * rowWords n) otherwise Buffer ∷ []
 
@@ -59,7 +59,7 @@ simulationReply Yes = given (1 ∷ [])
 simulationReply No = given (0 ∷ [])
 simulationReply (Refused r) = refused r
 
--- the sheet (1 to 6), then the start (8 to 10), then the claim (8)
+-- the sheet (1 to 6, 16, 17), then the start (8 to 10), then the claim (8)
 unfoldable pub simulationRules : List ℕ → List ℕ → List ℕ → List Rule
 simulationRules s start claim = inputRules s start ++ isMatrix (headerOf s .states) claim otherwise Grid ∷ []
 

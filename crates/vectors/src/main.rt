@@ -1,14 +1,13 @@
 // Runs every call of the library on cases from standard input, and prints a line of numbers for each: the case's number, its operation, the
-// refusal and its record's number (0 for none), the values, and a checksum of each lent buffer as it is afterwards. A case is one byte, its
-// operation, and its fields.
-mod checksums;
-mod entries;
-mod fields;
-mod output;
+// refusal and its record's number (0 for none), the values, and a checksum of each lent buffer as it is afterwards.
 mod refinements;
 mod relations;
 mod sheets;
-mod strategies;
+
+use case_files::fields;
+use case_files::output;
+use strategy_cases::entries;
+use strategy_cases::strategies;
 
 // Runs a call on a sheet, a start and the numbers of a strategy.
 fn run_numbered(operation: u8, s: &[u8], start: &[u64], numbers: &mut [u16]) {
@@ -48,13 +47,15 @@ fn read_start(operation: u8, s: &[u8]) {
 // Runs a call on a sheet. The call reads its further fields.
 fn run_case(operation: u8, s: &[u8]) {
     match operation {
-        1 => sheets::run_normal(s),
+        1 => sheets::run_written(1, s),
         2 => relations::run_termination(s),
         8 => sheets::run_compared(s),
         9 => sheets::run_reading(s),
         14 => refinements::run_carried(s),
         15 => sheets::run_joined(s),
         16 => sheets::run_text(s),
+        17 => sheets::run_written(17, s),
+        18 => sheets::run_written(18, s),
         _ => read_start(operation, s),
     }
 }

@@ -1,7 +1,7 @@
 // Coarsest, on words and on bytes.
-use super::checksums;
-use super::fields;
-use super::output;
+use case_files::checksums;
+use case_files::fields;
+use case_files::output;
 
 // Writes the refusal with its record, the steps, the pairs and the blocks.
 fn put_answer(answer: coarsest::Answer) {

@@ -1,7 +1,7 @@
 // Calls on a sheet and relations.
-use super::checksums;
-use super::fields;
-use super::output;
+use case_files::checksums;
+use case_files::fields;
+use case_files::output;
 
 fn put_termination(s: &[u8], grid: &mut [u64]) {
     output::put_checked(simulation::termination_preorder(s, grid));

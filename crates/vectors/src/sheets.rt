@@ -1,18 +1,26 @@
 // Calls on one sheet, and on two.
-use super::checksums;
-use super::fields;
-use super::output;
+use case_files::checksums;
+use case_files::fields;
+use case_files::output;
 
-fn put_normal(s: &[u8], out: &mut [u8]) {
-    output::put_checked(normal_form::normalise(s, out));
+fn write_sheet(operation: u8, s: &[u8], out: &mut [u8]) -> lts::Checked {
+    match operation {
+        17 => conversion::to_named(s, out),
+        18 => conversion::to_plain(s, out),
+        _ => normal_form::normalise(s, out),
+    }
+}
+
+fn put_written(operation: u8, s: &[u8], out: &mut [u8]) {
+    output::put_checked(write_sheet(operation, s, out));
     output::put(checksums::bytes(out));
 }
 
-// Operation 1, normalise: a sheet and a buffer.
-pub fn run_normal(s: &[u8]) {
+// Operations 1, normalise, 17, to named, and 18, to plain: a sheet and a buffer.
+pub fn run_written(operation: u8, s: &[u8]) {
     let mut out = [0u8; 8208];
     let n = fields::read_field(&mut out);
-    put_normal(s, &mut out[..n]);
+    put_written(operation, s, &mut out[..n]);
 }
 
 fn put_compared(answer: comparison::Compared) {

@@ -15,11 +15,13 @@ pub enum Call {
     WritePlan,
     HandPlay,
     Join,
+    ToNamed,
+    ToPlain,
 }
 
 impl Call {
     /// All calls.
-    pub const ALL: [Call; 9] = [
+    pub const ALL: [Call; 11] = [
         Call::Coarsest,
         Call::Compare,
         Call::Normalise,
@@ -29,9 +31,11 @@ impl Call {
         Call::WritePlan,
         Call::HandPlay,
         Call::Join,
+        Call::ToNamed,
+        Call::ToPlain,
     ];
 
-    /// Document 01's name, with _ for a blank.
+    /// The documents' name, with _ for a blank.
     pub fn name(self) -> &'static str {
         match self {
             Call::Coarsest => "coarsest",
@@ -43,6 +47,8 @@ impl Call {
             Call::WritePlan => "write_plan",
             Call::HandPlay => "hand_play",
             Call::Join => "join",
+            Call::ToNamed => "to_named",
+            Call::ToPlain => "to_plain",
         }
     }
 
@@ -51,7 +57,8 @@ impl Call {
         match self {
             Call::Coarsest => &[1, 2, 17, 3, 4, 5, 16, 6, 8, 9, 10, 15],
             Call::Compare => &[1, 2, 17, 3, 4, 5, 16, 6, 7, 18],
-            Call::Normalise | Call::EndStart => &[1, 2, 17, 3, 4, 5, 16, 6, 15],
+            Call::Normalise | Call::EndStart | Call::ToNamed => &[1, 2, 17, 3, 4, 5, 16, 6, 15],
+            Call::ToPlain => &[1, 2, 17, 3, 4, 5, 16, 6, 19, 15],
             Call::TestSimulation => &[1, 2, 17, 3, 4, 5, 16, 6, 8, 9, 10],
             Call::CheckPlan => &[1, 2, 17, 3, 4, 5, 16, 6, 8, 9, 10, 14],
             Call::WritePlan => &[1, 2, 17, 3, 4, 5, 16, 6, 8, 9, 10, 11, 13, 15],

@@ -1,6 +1,6 @@
 //! Flows of many shapes and sizes.
 
-use reference::labels::LabelledLts;
+use reference::labels::{decimal, LabelledLts};
 use reference::lts::{Lts, Transition};
 use reference::prng::Prng;
 use reference::random;
@@ -118,6 +118,46 @@ pub fn labels_at_limit(rng: &mut Prng) -> [LabelledLts; 2] {
     match rng.below(2) {
         0 => [first, second],
         _ => [second, first],
+    }
+}
+
+/// A flow to be converted: plain, or named by decimal numbers, by nearly these
+/// or by any labels.
+pub fn to_convert(rng: &mut Prng, lts: Lts) -> LabelledLts {
+    let m = lts.actions();
+    let mut labels = decimal(m);
+    match rng.below(10) {
+        0..=3 => return LabelledLts::plain(lts),
+        4..=6 => {}
+        7 if m > 0 => {
+            let at = [0, m - 1, rng.below(m)][rng.below(3)];
+            labels[at] = near_decimal(rng, at + 1, &labels);
+        }
+        8 if m > 1 => {
+            let at = rng.below(m);
+            labels.swap(at, (at + rng.between(1, m - 1)) % m);
+        }
+        _ => labels = random::labels(rng, m),
+    }
+    LabelledLts::named(lts, labels)
+}
+
+/// A label near a number's decimal one that is not among those taken.
+fn near_decimal(rng: &mut Prng, number: usize, taken: &[String]) -> String {
+    loop {
+        let label = match rng.below(8) {
+            0 => format!("0{number}"),
+            1 => format!("+{number}"),
+            2 => format!("{number}{}", rng.below(10)),
+            3 => format!("{number}!"),
+            4 => format!("{number:0>16}"),
+            5 => number.saturating_sub(1).to_string(),
+            6 => rng.below(100).to_string(),
+            _ => random::label(rng),
+        };
+        if !taken.contains(&label) {
+            return label;
+        }
     }
 }
 

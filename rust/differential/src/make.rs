@@ -5,12 +5,12 @@ use crate::damage::{sheet, wrong_length};
 use crate::flows::{self, Sizes};
 use crate::grids;
 use crate::sides::{carried, carried16};
-use reference::labels::LabelledLts;
+use reference::labels::{LabelledLts, LABEL};
 use reference::lts::Lts;
 use reference::plans::{Rounds, ENTRY_NUMBERS};
 use reference::prng::Prng;
 use reference::relation::{Preorder, Relation};
-use reference::sheet::write_labelled;
+use reference::sheet::{length, named_length, write_labelled};
 use reference::{compare, fixpoint, grid, random};
 
 /// How many in a hundred sheets, starts and lengths are damaged.
@@ -88,6 +88,7 @@ pub fn case(call: Call, seed: u64) -> Case {
             let out = join_buffer(rng, right);
             case.bytes.push(out);
         }
+        Call::ToNamed | Call::ToPlain => convert(rng, &mut case),
     }
     case
 }
@@ -199,6 +200,25 @@ fn join_buffer(rng: &mut Prng, right: usize) -> Vec<u8> {
         _ => wrong_length(rng, right, 6),
     };
     any_bytes(rng, count)
+}
+
+/// A sheet to be converted, and a buffer of the new length, of the old one, or
+/// missized.
+fn convert(rng: &mut Prng, case: &mut Case) {
+    let lts = flows::flow(rng, MANY);
+    let (n, m, k) = (lts.states(), lts.actions(), lts.transitions().len());
+    let flow = flows::to_convert(rng, lts);
+    let sheet = sheet(rng, &flow, DAMAGED);
+    let right = match case.call {
+        Call::ToNamed => named_length(n, m, k),
+        _ => length(n, k),
+    };
+    let out = if rng.chance(4) {
+        any_bytes(rng, sheet.len())
+    } else {
+        result_buffer(rng, right, LABEL)
+    };
+    case.bytes.extend([sheet, out]);
 }
 
 /// A claim for test simulation: near the coarsest simulation, or anything.

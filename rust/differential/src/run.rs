@@ -9,7 +9,7 @@ use crate::sides;
 use reference::sheet::NAMED;
 
 /// One more than the highest number of a refusal.
-const NUMBERS: usize = 19;
+const NUMBERS: usize = 20;
 
 /// The refusals that are about a record.
 const ABOUT_A_RECORD: [u8; 2] = [5, 16];

@@ -3,7 +3,7 @@
 use crate::case::{Call, Case, Outcome};
 use crate::memory::{Slot, SLOTS};
 use reference::refusal::Refusal;
-use reference::{compare, game, grid, join, plans, sheet, turns};
+use reference::{compare, convert, game, grid, join, plans, sheet, turns};
 
 /// The archive's outcome, with the lent buffers lying in the given slots.
 pub fn archive<S: Slot>(case: &Case, slots: &mut [S; SLOTS]) -> Outcome {
@@ -60,6 +60,8 @@ fn archive_answer(
         (Call::Join, [first, second, out], []) => {
             flow::join(first, second, out).map(|length| vec![length as u64])
         }
+        (Call::ToNamed, [sheet, out], []) => flow::to_named_into(sheet, out).map(|()| Vec::new()),
+        (Call::ToPlain, [sheet, out], []) => flow::to_plain_into(sheet, out).map(|()| Vec::new()),
         _ => panic!("a case with other buffers than its call takes"),
     }
 }
@@ -122,6 +124,8 @@ fn expected_answer(
         (Call::Join, [first, second, out], []) => {
             join::join(first, second, out).map(|length| vec![length as u64])
         }
+        (Call::ToNamed, [sheet, out], []) => convert::to_named(sheet, out).map(|()| Vec::new()),
+        (Call::ToPlain, [sheet, out], []) => convert::to_plain(sheet, out).map(|()| Vec::new()),
         _ => panic!("a case with other buffers than its call takes"),
     }
 }

@@ -40,6 +40,8 @@ calls! {
     write_plan WritePlan
     hand_play HandPlay
     join Join
+    to_named ToNamed
+    to_plain ToPlain
 }
 
 #[cfg(target_os = "linux")]

@@ -74,7 +74,7 @@ fn grid(rows: [u8; 3]) -> Vec<u8> {
 
 /// Named F3, with its records the other way round: document 01's answers.
 #[test]
-fn f3_in_every_call_on_one_sheet() {
+fn f3_in_every_other_call_on_one_sheet() {
     let normal = named(&F3, &[b"open_flock"]);
     let turned = [
         3, 0, 1, 0, 2, 0, 0, 0, 2, 0, 0, 0, 0, 0, 0, 0, 1, 0, 1, 0, 2, 0, 0, 0, 1, 0, 1, 0, 0, 0,
@@ -114,6 +114,15 @@ fn f3_in_every_call_on_one_sheet() {
         let play = case(Call::HandPlay, &[sheet, all], &[2, 0, rounds]);
         answers(play, &[wins], &[]);
     }
+}
+
+/// Named F3 is copied, and has no way to a plain sheet.
+#[test]
+fn f3_in_the_converting_calls() {
+    let (sheet, blank) = (&named(&F3, &[b"open_flock"])[..], [0xa5; 46]);
+    answers(case(Call::ToNamed, &[sheet, &blank], &[]), &[], &[sheet]);
+    let plain = case(Call::ToPlain, &[sheet, &blank[..30]], &[]);
+    refused(&plain, Refusal::NOT_DECIMAL, "F3", &mut Heap::slots());
 }
 
 /// "open" is action 1 in the first sheet; in the second it is 2, or missing.
@@ -383,10 +392,9 @@ fn with_twins(case: &Case, which: [bool; 2]) -> Option<Case> {
 #[test]
 fn a_plain_sheet_and_its_twin() {
     let kinds = [[true, false], [false, true], [true, true]];
-    for call in Call::ALL {
-        if [Call::Normalise, Call::Join].contains(&call) {
-            continue; // Their results are of the sheets' kind.
-        }
+    // The results of these are sheets, and go by kind.
+    let sheets = [Call::Normalise, Call::Join, Call::ToNamed, Call::ToPlain];
+    for call in Call::ALL.into_iter().filter(|call| !sheets.contains(call)) {
         let mut count = [0; 2];
         for seed in 0..3_000 {
             let case = make::case(call, seed);
@@ -421,7 +429,11 @@ fn named_sheets_at_their_limits() {
     ];
     for (sheet, pages) in &sheets {
         for call in calls_on(1) {
-            assert!(outcome(&right(call, &[sheet], *pages)).answer.is_ok());
+            let answer = outcome(&right(call, &[sheet], *pages)).answer;
+            match call {
+                Call::ToPlain if sheet[2] > 0 => assert_eq!(answer, Err(Refusal::NOT_DECIMAL)),
+                _ => assert!(answer.is_ok()),
+            }
         }
         for (other, _) in &sheets {
             for call in calls_on(2) {

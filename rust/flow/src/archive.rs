@@ -1,4 +1,4 @@
-//! The nine symbols of the archive, and one safe function for each.
+//! The eleven symbols of the archive, and one safe function for each.
 //!
 //! A lent slice passes as its pointer and its length. The calls read and write
 //! no byte outside the slices, keep no pointer and hold no state, so the
@@ -34,6 +34,8 @@ extern "C" {
         out_len: usize,
     ) -> u64;
     fn flow_normalise(sheet: *const u8, sheet_len: usize, out: *mut u8, out_len: usize) -> u64;
+    fn flow_to_named(sheet: *const u8, sheet_len: usize, out: *mut u8, out_len: usize) -> u64;
+    fn flow_to_plain(sheet: *const u8, sheet_len: usize, out: *mut u8, out_len: usize) -> u64;
     fn flow_end_start(sheet: *const u8, sheet_len: usize, grid: *mut u8, grid_len: usize) -> u64;
     fn flow_test_simulation(
         sheet: *const u8,
@@ -114,6 +116,14 @@ pub fn join(first: &[u8], second: &[u8], out: &mut [u8]) -> u64 {
 
 pub fn normalise(sheet: &[u8], out: &mut [u8]) -> u64 {
     unsafe { flow_normalise(sheet.as_ptr(), sheet.len(), out.as_mut_ptr(), out.len()) }
+}
+
+pub fn to_named(sheet: &[u8], out: &mut [u8]) -> u64 {
+    unsafe { flow_to_named(sheet.as_ptr(), sheet.len(), out.as_mut_ptr(), out.len()) }
+}
+
+pub fn to_plain(sheet: &[u8], out: &mut [u8]) -> u64 {
+    unsafe { flow_to_plain(sheet.as_ptr(), sheet.len(), out.as_mut_ptr(), out.len()) }
 }
 
 pub fn end_start(sheet: &[u8], grid: &mut [u8]) -> u64 {

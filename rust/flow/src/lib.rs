@@ -45,6 +45,9 @@
 //! on. [`compare`] and [`join`] match actions by name; [`labels`] gives the
 //! names of a sheet.
 //!
+//! [`to_named`] turns a plain sheet into the named one with decimal names, and
+//! [`to_plain`] goes back; neither moves a record.
+//!
 //! # Panics
 //!
 //! The archive packs an answer into one number. A number that stands for no
@@ -55,12 +58,14 @@
 #![warn(missing_docs)]
 
 mod archive;
+mod convert;
 mod grid;
 mod packing;
 mod plan;
 mod refusal;
 mod sheet;
 
+pub use convert::{to_named, to_named_into, to_plain, to_plain_into};
 pub use grid::Grid;
 pub use plan::{entries, Entry, ENTRY_BYTES};
 pub use refusal::Refusal;

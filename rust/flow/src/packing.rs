@@ -101,7 +101,7 @@ mod tests {
                 impossible(rest + result);
             }
         }
-        for number in [19, 255, u64::MAX] {
+        for number in [20, 255, u64::MAX] {
             impossible(number);
         }
     }

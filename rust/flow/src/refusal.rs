@@ -54,6 +54,8 @@ pub enum Refusal {
     Joined,
     /// 18: a joined flow with more than 64 names.
     TooManyLabels,
+    /// 19: names that a plain sheet can't carry.
+    NotDecimal,
     /// 8: a grid that is read has another length, or a bit at q ≥ n.
     Grid,
     /// 9: the start is not reflexive.
@@ -78,9 +80,9 @@ const MOST_RECORDS: u16 = 1_024;
 
 impl Refusal {
     /// The numbers of all refusals, in the order of the table: 16 stands
-    /// directly after 5, 17 after 2 and 18 after 7.
+    /// directly after 5, 17 after 2, 18 after 7 and 19 after 18.
     pub const NUMBERS: &'static [u8] = &[
-        1, 2, 17, 3, 4, 5, 16, 6, 7, 18, 8, 9, 10, 11, 12, 13, 14, 15,
+        1, 2, 17, 3, 4, 5, 16, 6, 7, 18, 19, 8, 9, 10, 11, 12, 13, 14, 15,
     ];
 
     /// The refusal's number in the table.
@@ -96,6 +98,7 @@ impl Refusal {
             Refusal::Repeated => 6,
             Refusal::Joined => 7,
             Refusal::TooManyLabels => 18,
+            Refusal::NotDecimal => 19,
             Refusal::Grid => 8,
             Refusal::NotReflexive => 9,
             Refusal::NotTransitive => 10,
@@ -144,6 +147,7 @@ impl Refusal {
             6 => Refusal::Repeated,
             7 => Refusal::Joined,
             18 => Refusal::TooManyLabels,
+            19 => Refusal::NotDecimal,
             8 => Refusal::Grid,
             9 => Refusal::NotReflexive,
             10 => Refusal::NotTransitive,
@@ -192,6 +196,7 @@ impl Refusal {
             Refusal::Repeated => "an action and target twice in one chain",
             Refusal::Joined => "joined flow above 256 pages or 1,024 moves",
             Refusal::TooManyLabels => "more than 64 joined names",
+            Refusal::NotDecimal => "names that a plain sheet can't carry",
             Refusal::Grid => "a grid read: length, or a bit at q ≥ n",
             Refusal::NotReflexive => "start not reflexive",
             Refusal::NotTransitive => "start not transitive",
@@ -240,7 +245,7 @@ mod tests {
             for record in [0, 1, 2, 255, 256, MOST_RECORDS, 1_025, u16::MAX] {
                 let fits = match number {
                     5 | 16 => record != 0 && record <= 1_024,
-                    1..=15 | 17 | 18 => record == 0,
+                    1..=15 | 17..=19 => record == 0,
                     _ => false,
                 };
                 let refusal = Refusal::from_numbers(number, record);
@@ -258,7 +263,7 @@ mod tests {
     fn the_order_of_the_table() {
         assert!(all().is_sorted());
         let mut numbers = Refusal::NUMBERS.to_vec();
-        for (later, directly_after) in [(16, 5), (17, 2), (18, 7)] {
+        for (later, directly_after) in [(16, 5), (17, 2), (19, 18), (18, 7)] {
             let at = numbers.iter().position(|&n| n == later).unwrap();
             assert_eq!(numbers[at - 1], directly_after);
             numbers.remove(at);

@@ -1,4 +1,4 @@
-//! What a sheet says of itself, once a proved call has read it.
+//! What a sheet says of itself.
 
 use crate::{normalise, Refusal};
 
@@ -6,7 +6,7 @@ use crate::{normalise, Refusal};
 const HEADER: usize = 6;
 
 /// The bytes of an action's name.
-const LABEL: usize = 16;
+pub(crate) const LABEL: usize = 16;
 
 /// What is added to the first number of a named sheet.
 const NAMED: u16 = 32_768;
@@ -48,8 +48,8 @@ pub fn pages(sheet: &[u8]) -> Result<u16, Refusal> {
 /// ```
 pub fn labels(sheet: &[u8]) -> Result<Vec<String>, Refusal> {
     read(sheet)?;
-    let actions = usize::from(number(sheet, 2));
-    if number(sheet, 0) & NAMED == 0 {
+    let actions = actions_of(sheet);
+    if !is_named(sheet) {
         return Ok((1..=actions).map(|action| action.to_string()).collect());
     }
     let labels = &sheet[HEADER..HEADER + LABEL * actions];
@@ -61,9 +61,22 @@ fn read(sheet: &[u8]) -> Result<(), Refusal> {
     normalise(sheet, &mut vec![0; sheet.len()])
 }
 
-/// The 16-bit number at a place.
+/// Does a header say that the sheet is a named one?
+pub(crate) fn is_named(sheet: &[u8]) -> bool {
+    number(sheet, 0) & NAMED != 0
+}
+
+/// The number of actions that a header says.
+pub(crate) fn actions_of(sheet: &[u8]) -> usize {
+    number(sheet, 2).into()
+}
+
+/// The 16-bit number at a place; 0 where the bytes end before.
 fn number(sheet: &[u8], at: usize) -> u16 {
-    u16::from_le_bytes([sheet[at], sheet[at + 1]])
+    match sheet.get(at..at + 2) {
+        Some(bytes) => u16::from_le_bytes([bytes[0], bytes[1]]),
+        None => 0,
+    }
 }
 
 /// A name without the zeros behind it.

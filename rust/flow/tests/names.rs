@@ -1,26 +1,12 @@
 //! Document 02's named sheets, through the safe calls.
 
+mod sheets;
+
 use flow::{Grid, Pair, Refusal, LONGEST_SHEET};
 use reference::lts::Lts;
 use reference::prng::Prng;
 use reference::{random, sheet};
-
-/// F3's sheet, as document 01 prints it.
-const F3: [u8; 30] = [
-    3, 0, 1, 0, 2, 0, 0, 0, 1, 0, 0, 0, 0, 0, 0, 0, 2, 0, 1, 0, 1, 0, 0, 0, 1, 0, 2, 0, 0, 0,
-];
-
-/// The named sheet with the records of a plain one.
-fn named(plain: &[u8], labels: &[&str]) -> Vec<u8> {
-    let mut sheet = plain[..6].to_vec();
-    sheet[1] += 128;
-    for label in labels {
-        sheet.extend_from_slice(label.as_bytes());
-        sheet.resize(sheet.len() + 16 - label.len(), 0);
-    }
-    sheet.extend_from_slice(&plain[6..]);
-    sheet
-}
+use sheets::{named, F3};
 
 /// The named sheet of a flow.
 fn sheet_of(lts: &Lts, labels: &[&str]) -> Vec<u8> {

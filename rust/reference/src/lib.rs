@@ -1,16 +1,16 @@
 //! Independent reference for the flow comparer.
 //!
 //! Written only from document 01 (the scope: sheets, grids, turns, plans), from
-//! requests L1 (which record is off its chain) and L2 (actions by name) of
-//! document 02 and from document 004 (the base algorithm). It aims at being
-//! plainly right rather than fast.
+//! requests L1 (which record is off its chain), L2 (actions by name) and L3 (old
+//! sheets to named ones and back) of document 02 and from document 004 (the base
+//! algorithm). It aims at being plainly right rather than fast.
 //! Names: a page is a [`lts::State`], a move is a [`lts::Transition`], a turn
 //! list is a schedule, the name of a block is its representative, the name of an
 //! action is its label, and a plan is a [`plans::Strategy`] made of
 //! [`plans::Entry`]. A call gives its result or a
 //! [`refusal::Refusal`], which has a refusal number and a record number.
 //!
-//! The calls of document 01:
+//! The calls:
 //!
 //! | call | function |
 //! |---|---|
@@ -23,11 +23,14 @@
 //! | hand play | [`game::hand_play`] |
 //! | compare | [`compare::compare`] |
 //! | join | [`join::join`] |
+//! | to named | [`convert::to_named`] |
+//! | to plain | [`convert::to_plain`] |
 //! | the program flowcheck | [`report::flowcheck`] |
 
 pub mod base;
 pub mod chain_faults;
 pub mod compare;
+pub mod convert;
 pub mod fixpoint;
 pub mod game;
 pub mod grid;

@@ -43,6 +43,8 @@ impl Refusal {
     pub const LABEL: Refusal = Refusal::numbered(17);
     /// The joined flow has more than 64 labels.
     pub const TOO_MANY_LABELS: Refusal = Refusal::numbered(18);
+    /// Names that a plain sheet can't carry.
+    pub const NOT_DECIMAL: Refusal = Refusal::numbered(19);
 
     /// The refusal of this number that names no record.
     pub const fn numbered(number: u8) -> Refusal {

@@ -26,25 +26,18 @@ mod json;
 mod replies;
 mod story;
 mod text;
+mod tool;
 mod verdict;
 
 #[cfg(test)]
 mod tests;
 
 use std::ffi::OsString;
-use std::fs::File;
-use std::io::{self, Read, Write};
-use std::panic;
-use std::path::{Path, PathBuf};
+use std::io::{self, Write};
+use std::path::PathBuf;
 use std::process::ExitCode;
+use tool::{complain, NO_ANSWER};
 use verdict::Verdict;
-
-/// The status where there is no verdict.
-const NO_VERDICT: u8 = 2;
-
-/// One byte more than the longest sheet has is enough to refuse a longer file
-/// as the whole of it would be.
-const MOST_BYTES: u64 = flow::LONGEST_SHEET as u64 + 1;
 
 /// What the tool is asked for.
 struct Request {
@@ -56,15 +49,12 @@ struct Request {
 
 fn main() -> ExitCode {
     let Some(request) = request(std::env::args_os().skip(1)) else {
-        let _ = writeln!(
-            io::stderr(),
-            "usage: release [--entries] [--json] SITE RULES"
-        );
-        return ExitCode::from(NO_VERDICT);
+        complain("usage: release [--entries] [--json] SITE RULES");
+        return ExitCode::from(NO_ANSWER);
     };
     let found = find(&request);
     if let Err(message) = &found {
-        complain(message);
+        complain(&format!("release: {message}"));
     }
     let text = if request.json {
         json::line(&found)
@@ -73,20 +63,14 @@ fn main() -> ExitCode {
     };
     let mut out = io::stdout();
     if let Err(error) = out.write_all(text.as_bytes()).and_then(|()| out.flush()) {
-        complain(&format!("standard output: {error}"));
-        return ExitCode::from(NO_VERDICT);
+        complain(&format!("release: standard output: {error}"));
+        return ExitCode::from(NO_ANSWER);
     }
     ExitCode::from(match found {
         Ok(Verdict::Open { .. }) => 0,
         Ok(Verdict::Closed { .. }) => 1,
-        Ok(Verdict::Refused { .. }) | Err(_) => NO_VERDICT,
+        Ok(Verdict::Refused { .. }) | Err(_) => NO_ANSWER,
     })
-}
-
-/// One line on standard error, if that is open.
-fn complain(message: &str) {
-    let line = message.replace(char::is_control, " ");
-    let _ = writeln!(io::stderr(), "release: {line}");
 }
 
 /// The words of the call; none if there is a wrong one.
@@ -110,21 +94,8 @@ fn request(words: impl Iterator<Item = OsString>) -> Option<Request> {
 }
 
 /// Reads the files and gives the verdict, or one line that says why there is
-/// none. The wrapper panics where a result of the archive stands for no
-/// answer: that is such a reason too.
+/// none.
 fn find(request: &Request) -> Result<Verdict, String> {
-    let (site, rules) = (read(&request.site)?, read(&request.rules)?);
-    panic::set_hook(Box::new(|_| ()));
-    panic::catch_unwind(|| verdict::judge(&site, &rules, request.entries))
-        .unwrap_or_else(|panic| Err(panic.downcast_ref::<String>().cloned().unwrap_or_default()))
-        .map_err(|message| format!("internal failure: {message}"))
-}
-
-/// The bytes of a file, as many as can be a sheet's.
-fn read(path: &Path) -> Result<Vec<u8>, String> {
-    let mut bytes = Vec::new();
-    File::open(path)
-        .and_then(|file| file.take(MOST_BYTES).read_to_end(&mut bytes))
-        .map_err(|error| format!("{}: {error}", path.display()))?;
-    Ok(bytes)
+    let (site, rules) = (tool::read(&request.site)?, tool::read(&request.rules)?);
+    tool::taken(|| verdict::judge(&site, &rules, request.entries))
 }

@@ -1,6 +1,7 @@
 //! The release tool, run as a process, against the independent program.
 
 mod json;
+mod run;
 
 use differential::{damage, flows};
 use json::Json;
@@ -9,10 +10,11 @@ use reference::lts::Lts;
 use reference::prng::Prng;
 use reference::refusal::Refusal;
 use reference::{compare, random, sheet};
+use run::{Folder, Run};
 use std::ffi::OsStr;
 use std::fs;
 use std::path::{Path, PathBuf};
-use std::process::{Command, Output, Stdio};
+use std::process::{Command, Stdio};
 
 /// Pairs of sheets of all kinds that are run.
 const PAIRS: u64 = 300;
@@ -27,53 +29,7 @@ fn program<W: AsRef<OsStr>>(words: &[W]) -> Command {
     command
 }
 
-/// A finished run: its status, and what it printed.
-#[derive(PartialEq, Eq, Debug)]
-struct Run {
-    status: i32,
-    out: String,
-    errors: String,
-}
-
-impl Run {
-    fn of(mut command: Command) -> Run {
-        let Output {
-            status,
-            stdout,
-            stderr,
-        } = command.output().unwrap();
-        Run {
-            status: status.code().expect("no signal"),
-            out: String::from_utf8(stdout).unwrap(),
-            errors: String::from_utf8(stderr).unwrap(),
-        }
-    }
-
-    /// Printed this with this status, and no complaint.
-    fn is(&self, status: i32, out: &str) {
-        assert_eq!((self.status, self.out.as_str()), (status, out));
-        assert_eq!(self.errors, "");
-    }
-
-    /// No verdict, nothing printed, and one line of complaint.
-    fn fails(&self, complaint: &str) {
-        assert_eq!((self.status, self.out.as_str()), (2, ""));
-        assert!(self.errors.contains(complaint), "{self:?}");
-        let lines = self.errors.lines().count();
-        assert!(lines == 1 && self.errors.ends_with('\n'), "{self:?}");
-    }
-}
-
-/// A folder of its own for each test.
-struct Folder(PathBuf);
-
 impl Folder {
-    fn new(name: &str) -> Folder {
-        let path = Path::new(env!("CARGO_TARGET_TMPDIR")).join(name);
-        fs::create_dir_all(&path).unwrap();
-        Folder(path)
-    }
-
     /// The run on two sheets, with these options.
     fn run(&self, options: &[&str], site: &[u8], rules: &[u8]) -> Run {
         fs::write(self.0.join("site"), site).unwrap();

@@ -8,7 +8,7 @@ use Rattle.encoding.specs.Labels.{labelsIn}
 use Rattle.labels.specs.Index.{Indexed}
 use Rattle.labels.proofs.Maps.{Matching, matching-none, match-old, match-new}
 use denote.Ref.{now}
-use Rattle.labels.proofs.Labels.{label-next, labels-all}
+use Rattle.labels.proofs.Labels.{label-next, labels-whole}
 use Rattle.encoding.proofs.Labels.{labels-length}
 use Rattle.encoding.proofs.Laws.{sheet-labels}
 use Rattle.lts.specs.Labels.{joinedLabels}
@@ -122,7 +122,7 @@ returns c =
     let a = c .before .before .before .args in
     let l = c .before .loop in
     let all : l .i ≡ a .h .actions = omega arith in (
-      λ A has m. l .inv .6 A has m .counted ∙ ap (λ (B : List (List ℕ)). length (joinedLabels A B)) (labels-all (now (a .s)) (a .h) (l .i) (omega arith)),
+      λ A has m. l .inv .6 A has m .counted ∙ ap (λ (B : List (List ℕ)). length (joinedLabels A B)) (labels-whole (now (a .s)) (a .h) (l .i) (omega arith)),
       λ A has m. subst (λ (k : ℕ). Matches A (labelsIn (now (a .s)) (a .h)) k (l .to)) all (l .inv .6 A has m .numbers),
     )
 

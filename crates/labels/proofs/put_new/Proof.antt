@@ -8,7 +8,7 @@ use Rattle.lts.specs.Labels.{joinedLabels}
 use Rattle.encoding.specs.Labels.{labelsIn, labelsBytes}
 use Rattle.labels.specs.Maps.{Begins, Joining}
 use denote.Ref.{now}
-use Rattle.labels.proofs.Labels.{label-next, labels-all}
+use Rattle.labels.proofs.Labels.{label-next, labels-whole}
 use Rattle.encoding.proofs.Labels.{labels-length}
 use Rattle.encoding.proofs.Bytes.{label-sixteen}
 use Rattle.encoding.proofs.Laws.{sheet-labels}
@@ -124,7 +124,7 @@ returns : tie.Need-returns Inv-loop μ-loop
 returns c = λ A j.
     let a = c .before .before .before .before .args in
     let l = c .before .loop in
-    subst (λ (J : List (List ℕ)). Begins (l .out) (labelsBytes (joinedLabels A J))) (labels-all (now (a .s)) (a .h) (l .i) (omega arith)) (l .inv .4 A j)
+    subst (λ (J : List (List ℕ)). Begins (l .out) (labelsBytes (joinedLabels A J))) (labels-whole (now (a .s)) (a .h) (l .i) (omega arith)) (l .inv .4 A j)
 
 pub put-new-spec : {M : Type 1} → statement M
 put-new-spec =

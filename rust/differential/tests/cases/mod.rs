@@ -5,6 +5,7 @@ use differential::memory::{Slot, SLOTS};
 use differential::sides::{archive, expected};
 use flow::{Entry, Grid, LONGEST_SHEET};
 use reference::refusal::Refusal;
+use reference::sheet::{length, named_length};
 
 /// The calls on so many sheets.
 pub fn calls_on(sheets: usize) -> impl Iterator<Item = Call> {
@@ -32,6 +33,7 @@ pub fn right(call: Call, sheets: &[&[u8]], pages: usize) -> Case {
         }
         Call::Compare => (vec![], vec![]),
         Call::Normalise => (vec![result(sheets[0].len())], vec![]),
+        Call::ToNamed | Call::ToPlain => (vec![result(new_length(call, sheets[0]))], vec![]),
         Call::Join => (vec![result(LONGEST_SHEET)], vec![]),
         Call::EndStart => (vec![result(start.len())], vec![]),
         Call::TestSimulation => (vec![start.clone(), start], vec![]),
@@ -45,6 +47,21 @@ pub fn right(call: Call, sheets: &[&[u8]], pages: usize) -> Case {
         bytes,
         numbers,
     }
+}
+
+/// The length that a converted sheet has by its header; at most that of the
+/// longest sheet, and 0 where there is no header.
+pub fn new_length(call: Call, sheet: &[u8]) -> usize {
+    let &[n, kind, m, m_high, k, k_high, ..] = sheet else {
+        return 0;
+    };
+    let number = |low, high| usize::from(u16::from_le_bytes([low, high]));
+    let (n, m, k) = (number(n, kind & 127), number(m, m_high), number(k, k_high));
+    let length = match call {
+        Call::ToNamed => named_length(n, m, k),
+        _ => length(n, k),
+    };
+    length.min(LONGEST_SHEET)
 }
 
 /// The same with everything wrong that the call takes beside the sheets.

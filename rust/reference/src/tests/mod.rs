@@ -1,6 +1,7 @@
 //! Unit and property tests.
 
 mod chains;
+mod convert;
 mod document;
 mod join;
 mod names;

@@ -1,6 +1,7 @@
 //! One case: its fields, its bytes and its expected answer.
 
 use reference::compare::compare;
+use reference::convert::{to_named, to_plain};
 use reference::game::hand_play;
 use reference::grid::{end_start, test_simulation};
 use reference::join::join;
@@ -95,6 +96,16 @@ impl Case {
         Case::new(16, &[sheet])
     }
 
+    /// To named.
+    pub fn to_named(sheet: &[u8], out: &[u8]) -> Case {
+        Case::new(17, &[sheet, out])
+    }
+
+    /// To plain.
+    pub fn to_plain(sheet: &[u8], out: &[u8]) -> Case {
+        Case::new(18, &[sheet, out])
+    }
+
     /// Another operation on the same fields, of which field `at` has these
     /// bytes more.
     pub fn on(&self, op: u8, at: usize, more: &[u8]) -> Case {
@@ -142,6 +153,7 @@ impl Case {
             13 => &[SHEET, WORDS, BYTES, (4, 4)],
             14 => &[SHEET, BYTES, (4_104, 1), BYTES, (520, 1)],
             15 => &[SHEET, SHEET, SHEET],
+            17 | 18 => &[SHEET, BYTES],
             _ => panic!("no such op"),
         };
         assert_eq!(self.fields.len(), limits.len(), "op {}", self.op);
@@ -158,11 +170,7 @@ impl Case {
     pub fn run(&self) -> Answer {
         let f = &self.fields;
         match self.op {
-            1 => {
-                let mut out = f[1].clone();
-                let result = normalise(&f[0], &mut out).map(|()| vec![]);
-                Answer::of(result, 0, vec![out])
-            }
+            1 => self.run_rewriting(normalise),
             2 => {
                 let mut grid = words(&f[1]);
                 let result = end_start(&f[0], &mut grid).map(|()| vec![]);
@@ -212,8 +220,17 @@ impl Case {
                 let text = flowcheck(&f[0]).into_bytes();
                 Answer::of(Ok(vec![text.len()]), 1, vec![text])
             }
+            17 => self.run_rewriting(to_named),
+            18 => self.run_rewriting(to_plain),
             _ => panic!("no such op"),
         }
+    }
+
+    /// A call that writes the sheet in another form.
+    fn run_rewriting(&self, call: fn(&[u8], &mut [u8]) -> Result<(), Refusal>) -> Answer {
+        let mut out = self.fields[1].clone();
+        let result = call(&self.fields[0], &mut out).map(|()| vec![]);
+        Answer::of(result, 0, vec![out])
     }
 
     /// Coarsest. A grid or a list of names that its bytes do not carry whole

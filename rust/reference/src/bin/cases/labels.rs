@@ -1,6 +1,7 @@
 //! Named sheets in every operation, and refusals 17 and 18.
 
 use crate::case::Case;
+use crate::convert::converted;
 use crate::make::{self, end_words, filled_bytes, filled_numbers, filled_words, with_byte};
 use crate::refused::{both_sheets, first_and_second, in_turn, one_sheet};
 use reference::chain_faults::{self, Fault};
@@ -170,6 +171,7 @@ fn every_call(cases: &mut Vec<Case>, sheet: &[u8]) {
     let check = Case::check_plan(sheet, &start, &plan);
     let write = Case::write_plan(sheet, &start, &filled_numbers(plan.len() + 4), p, q);
     add(cases, sheet);
+    cases.extend(converted(sheet));
     cases.extend([
         Case::end_start(sheet, &words),
         Case::test_simulation(sheet, &start, &start),
@@ -357,7 +359,7 @@ fn random_pairs(cases: &mut Vec<Case>) {
 }
 
 /// `m` labels from the number `first` on.
-fn numbered(first: usize, m: usize) -> Vec<String> {
+pub fn numbered(first: usize, m: usize) -> Vec<String> {
     (first..first + m).map(|i| format!("act{i}")).collect()
 }
 

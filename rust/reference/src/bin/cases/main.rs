@@ -7,6 +7,7 @@
 mod case;
 mod chains;
 mod coarsest;
+mod convert;
 mod games;
 mod labels;
 mod make;
@@ -22,10 +23,10 @@ use std::path::Path;
 use std::process::ExitCode;
 
 /// The most bytes of the two files together.
-const MOST_BYTES: usize = 2_450_000;
+const MOST_BYTES: usize = 2_700_000;
 
 /// The refusals that each operation meets, 0 for none.
-const REFUSALS: [(u8, &[u8]); 16] = [
+const REFUSALS: [(u8, &[u8]); 18] = [
     (1, &[0, 1, 2, 3, 4, 5, 6, 15, 16, 17]),
     (2, &[0, 1, 2, 3, 4, 5, 6, 15, 16, 17]),
     (3, &[0, 1, 2, 3, 4, 5, 6, 8, 9, 10, 16, 17]),
@@ -42,6 +43,8 @@ const REFUSALS: [(u8, &[u8]); 16] = [
     (14, &[0, 1, 2, 3, 4, 5, 6, 8, 9, 10, 15, 16, 17]),
     (15, &[0, 1, 2, 3, 4, 5, 6, 7, 15, 16, 17, 18]),
     (16, &[0]),
+    (17, &[0, 1, 2, 3, 4, 5, 6, 15, 16, 17]),
+    (18, &[0, 1, 2, 3, 4, 5, 6, 15, 16, 17, 19]),
 ];
 const CHECKS: &[u8] = &[0, 1, 2, 3, 4, 5, 6, 8, 9, 10, 14, 16, 17];
 const WRITES: &[u8] = &[0, 1, 2, 3, 4, 5, 6, 8, 9, 10, 11, 13, 15, 16, 17];
@@ -59,6 +62,7 @@ fn cases() -> Vec<Case> {
         games::cases(),
         chains::cases(),
         labels::cases(),
+        convert::cases(),
     ]
     .concat()
 }

@@ -6,6 +6,16 @@ use reference::lts::Lts;
 use reference::relation::{Preorder, Relation};
 use reference::sheet;
 
+/// The orders of three records.
+pub const ORDERS: [[u16; 3]; 6] = [
+    [1, 2, 3],
+    [1, 3, 2],
+    [2, 1, 3],
+    [2, 3, 1],
+    [3, 1, 2],
+    [3, 2, 1],
+];
+
 /// F1 of document 01.
 pub fn f1() -> Vec<u8> {
     sheet::write(&Lts::of(1, 0, &[]))

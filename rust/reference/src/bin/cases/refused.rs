@@ -1,6 +1,7 @@
 //! Cases of a sheet that is refused, in every operation that reads one.
 
 use crate::case::Case;
+use crate::convert::{converted, to_other_kind};
 use crate::make::{self, filled_bytes, filled_numbers, filled_words, F3_START};
 use reference::chain_faults::Fault;
 
@@ -38,6 +39,7 @@ pub fn one_sheet(cases: &mut Vec<Case>, fault: &Fault) {
     ];
     add(cases, fault, calls);
     add(cases, fault, carried);
+    add(cases, fault, converted(sheet).to_vec());
     cases.push(Case::text(sheet));
 }
 
@@ -65,12 +67,14 @@ pub fn both_sheets(cases: &mut Vec<Case>, faults: &[Fault]) {
     }
 }
 
-/// A longer sheet, read, normalised and as the second of two.
+/// A longer sheet, read, normalised, made one of the other kind, and as the
+/// second of two.
 pub fn in_turn(cases: &mut Vec<Case>, fault: &Fault) {
     let sheet = &fault.sheet[..];
     let calls = vec![
         Case::read(sheet),
         Case::normalise(sheet, &filled_bytes(100)),
+        to_other_kind(sheet, &filled_bytes(100)),
         Case::compare(&make::f3(), sheet),
     ];
     add(cases, fault, calls);

@@ -1,7 +1,7 @@
 //! Normalise (op 1), read (op 9) and the text of flowcheck (op 16).
 
 use crate::case::Case;
-use crate::make::{self, filled_bytes, with_byte, RawSheet};
+use crate::make::{self, filled_bytes, with_byte, RawSheet, ORDERS};
 use reference::lts::Lts;
 use reference::prng::Prng;
 use reference::random;
@@ -42,7 +42,7 @@ fn add(cases: &mut Vec<Case>, sheet: &[u8]) {
 
 /// A readable sheet that the record tests damage: 3 pages, 2 actions and 4
 /// records, whose chains are 0: 3, 1 and 2: 4, 2.
-fn base() -> RawSheet {
+pub fn base() -> RawSheet {
     RawSheet::of(2, &[3, 0, 4], &[(1, 2, 0), (2, 0, 0), (2, 1, 1), (1, 0, 2)])
 }
 
@@ -182,28 +182,15 @@ fn move_records(cases: &mut Vec<Case>) {
 fn chains(cases: &mut Vec<Case>) {
     let move_list: [(u8, u16); 3] = [(1, 0), (2, 0), (1, 1)];
     // One chain of three records in each of the six orders.
-    for order in [
-        [1, 2, 3],
-        [1, 3, 2],
-        [2, 1, 3],
-        [2, 3, 1],
-        [3, 1, 2],
-        [3, 2, 1],
-    ] {
+    for [first, second, third] in ORDERS {
         let mut next = [0; 3];
-        next[order[0] - 1] = order[1] as u16;
-        next[order[1] - 1] = order[2] as u16;
+        next[usize::from(first) - 1] = second;
+        next[usize::from(second) - 1] = third;
         let moves: Vec<_> = (0..3)
             .map(|i| (move_list[i].0, move_list[i].1, next[i]))
             .collect();
-        add(
-            cases,
-            &RawSheet::of(2, &[order[0] as u16, 0], &moves).bytes(),
-        );
-        add(
-            cases,
-            &RawSheet::of(2, &[0, order[0] as u16], &moves).bytes(),
-        );
+        add(cases, &RawSheet::of(2, &[first, 0], &moves).bytes());
+        add(cases, &RawSheet::of(2, &[0, first], &moves).bytes());
     }
     let three = |firsts: &[u16], next: [u16; 3]| {
         let moves: Vec<_> = (0..3)
