@@ -7,12 +7,12 @@ use mathlib.Core.Logic.{_⊎_, inl, inr, _↔_}
 use mathlib.Core.Bool.{not, _&&_}
 use lib.Dec.{T}
 use Rattle.lts.specs.Bounded.{anyBelow, countBelow}
-use Rattle.lts.specs.System.{Rel, Lts, WellFormed, answered, Relation, Simulation}
+use Rattle.lts.specs.System.{Rel, Lts, WellFormed, answered, Relation, Simulation, Answered}
 use Rattle.lts.specs.Refinement.{pairCount}
 use Rattle.lts.specs.Rounds.{round, refutedAt, refutationRound}
 use Rattle.lts.proofs.Bounded.{and-iff, not-iff, dec, any-iff, restrict-iff}
 use Rattle.lts.proofs.Count.{sum-lt, count-le, count-lt, lowest-passes}
-use Rattle.lts.proofs.System.{Answered, answered-iff}
+use Rattle.lts.proofs.System.{answered-iff}
 use Rattle.lts.proofs.Step.{On}
 use Rattle.lts.proofs.Run.{Coarsest, pair-count-most}
 

@@ -5,7 +5,7 @@ use mathlib.Core.Logic.{_↔_}
 use mathlib.Core.Bool.{Bool, _&&_}
 use lib.Dec.{T}
 use Rattle.lts.specs.Bounded.{_⇒_, allBelow}
-use Rattle.lts.specs.System.{Set, Rel, Lts, WellFormed, allStates, anyState, allActions, anyAction, into, reflexive, transitive, within, answered, isSimulation, Relation, Simulation}
+use Rattle.lts.specs.System.{Set, Rel, Lts, WellFormed, allStates, anyState, allActions, anyAction, into, reflexive, transitive, within, answered, isSimulation, Answered, Simulation}
 use Rattle.lts.proofs.Bounded.{and-iff, imp-iff, any-iff, all-iff}
 use Rattle.lts.proofs.Refine.{Pred}
 
@@ -25,10 +25,6 @@ into-from {L} wf a X x s = any-iff (L .states) (λ t. L .transition x a t && X t
 pub record Preorder (L : Lts) (R : Rel) : Type 0 where
   pub loop : (p : ℕ) → p < L .states → T (R p p)
   pub chain : (p q r : ℕ) → p < L .states → q < L .states → r < L .states → T (R p q) → T (R q r) → T (R p r)
-
--- every transition of p has an answer by q, with the targets in R
-abbrev pub Answered : Lts → Relation → Relation
-Answered L R p q = (a t : ℕ) → T (L .transition p a t) → (r : ℕ) × T (L .transition q a r) × R t r
 
 pub answered-iff : {L : Lts} → WellFormed L → (R : Rel) (p q : ℕ) → T (answered L R p q) ↔ Answered L (λ t r. T (R t r)) p q
 unfolding answered allActions allStates

@@ -65,9 +65,12 @@ within L R S = allStates L (λ p. allStates L (λ q. R p q ⇒ S p q))
 unfoldable pub isSimulation : Lts → Rel → Bool
 isSimulation L R = within L R (answered L R)
 
--- The same for relations that no test need decide: S is a simulation inside the preorder.
+-- The same for relations that no test need decide: each transition of p has an answer by q; S is a simulation inside the preorder.
 abbrev pub Relation : Type 1
 Relation = ℕ → ℕ → Type 0
+
+abbrev pub Answered : Lts → Relation → Relation
+Answered L R p q = (a t : ℕ) → T (L .transition p a t) → (r : ℕ) × T (L .transition q a r) × R t r
 
 pub record Simulation (L : Lts) (preorder : Rel) (S : Relation) : Type 0 where
   pub states : {p q : ℕ} → S p q → (p < L .states) × (q < L .states)

@@ -4,39 +4,33 @@ use mathlib.Core.Bool.{Bool, true, false, not, _&&_, _||_, xor}
 use mathlib.Core.List.{List}
 use mathlib.Core.Logic.{⊎-elim}
 use Prim.Native.Nat.{ℕ, _+_, _-_, _*_, _/_, _%_, _^_, _≤_, _<_}
-use native.Mathlib.Nat.{div-lt-iff-lt-mul, mod-lt, div-add-mod'}
+use native.Mathlib.Nat.{mod-lt}
 use native.Mathlib.Omega.{arith}
 use lib.Dec.{T, eqb}
 use lib.Pow.{shr-shr, shr-lt}
 use lib.ListN.{length, getD, drop}
 use borrow.Author.Tests.{lt-ltb, le-ltb, eq-eqb, ne-eqb, eqb-true, not-true}
 use Rattle.rows.specs.Rows.{bit, inRow, rowWords, includedBelow}
-use Rattle.relation.specs.Matrix.{inMatrix, relationOf, Matrix}
-use Rattle.relation.specs.Check.{withinBelow, reflexiveBelow, transitivePair, transitiveAt, transitiveBelow, clearAt, isMatrix, startRules}
+use Rattle.relation.specs.Matrix.{relationOf, Matrix}
+use Rattle.relation.specs.Check.{reflexiveBelow, transitivePair, transitiveAt, transitiveBelow, clearAt, isMatrix, startRules}
 use Rattle.lts.specs.Rule.{Nothing, broken}
 use Rattle.lts.proofs.Rule.{kept}
 use Rattle.lts.specs.System.{Lts, allStates, reflexive, transitive}
 use Rattle.lts.specs.Bounded.{lowest, anyBelow, allBelow, _⇒_}
 use Rattle.rows.proofs.Bits.{word-ext, bit-of-zero, word-zero}
-use Rattle.rows.proofs.Rows.{inRow-at}
 use Rattle.lts.proofs.Below.{any-cong, any-shorter, lowest-cong, lowest-shorter, all-at, all-cong, all-of, all-shorter, all-yes, and-fst, and-snd, bool-iff, lt-or-ge, true-T}
-use Rattle.relation.proofs.Matrices.{inRow-drop, inMatrix-at, pair-word, width-positive}
+use Rattle.relation.proofs.Matrices.{inRow-drop, inMatrix-at}
 
 -- ---- inclusion of a matrix's rows
 
-pub row-included : (n : ℕ) (g : List ℕ) (p : ℕ) (A B : ℕ → Bool) → Matrix n g → p < n → ((q : ℕ) → q < n → A q ≡ B q)
-    → includedBelow (rowWords n * 64) (inRow (drop (p * rowWords n) g)) A ≡ includedBelow n (relationOf n g p) B
-unfolding includedBelow
-row-included n g p A B ok hp same =
-    all-cong (rowWords n * 64) _ _ (λ i l. ap (λ (b : Bool). b ⇒ A i) (inRow-drop (rowWords n) g p i))
-    ∙ all-shorter n (rowWords n * 64) (λ i. relationOf n g p i ⇒ A i) (omega arith) (λ i h l. ap (λ (b : Bool). b ⇒ A i) (ok .clear p i hp h l))
-    ∙ all-cong n _ _ (λ i h. ap (λ (b : Bool). relationOf n g p i ⇒ b) (same i h))
-
 pub rows-within : (n : ℕ) (g : List ℕ) (p q : ℕ) → Matrix n g → p < n
     → includedBelow (rowWords n * 64) (inRow (drop (p * rowWords n) g)) (inRow (drop (q * rowWords n) g)) ≡ includedBelow n (relationOf n g p) (relationOf n g q)
-rows-within n g p q ok hp = row-included n g p _ _ ok hp (λ i h. inRow-drop (rowWords n) g q i)
+unfolding includedBelow
+rows-within n g p q ok hp =
+    all-cong (rowWords n * 64) _ _ (λ i l. ap₂ _⇒_ (inRow-drop (rowWords n) g p i) (inRow-drop (rowWords n) g q i))
+    ∙ all-shorter n (rowWords n * 64) (λ i. relationOf n g p i ⇒ relationOf n g q i) (omega arith) (λ i h l. ap (λ (b : Bool). b ⇒ relationOf n g q i) (ok .clear p i hp h l))
 
--- a row of a matrix and a set, two rows of matrices
+-- two rows of matrices
 pub rows-differ : (n : ℕ) (g h : List ℕ) (p r : ℕ) → Matrix n g → Matrix n h → p < n → r < n
     → anyBelow (rowWords n * 64) (λ q. xor (inRow (drop (p * rowWords n) g) q) (inRow (drop (r * rowWords n) h) q)) ≡ anyBelow n (λ q. xor (relationOf n g p q) (relationOf n h r q))
 unfolding xor
@@ -121,41 +115,6 @@ wrong-length n g h = sym (ap (λ (b : Bool). b && allBelow n (clearAt n g)) (ne-
 pub right-length : (n : ℕ) (g : List ℕ) → length g ≡ n * rowWords n → allBelow n (clearAt n g) ≡ isMatrix n g
 unfolding isMatrix
 right-length n g h = sym (ap (λ (b : Bool). b && allBelow n (clearAt n g)) (eq-eqb (length g) (n * rowWords n) h))
-
--- ---- a matrix as one row
-
-pub inRow-flat : (w : ℕ) (g : List ℕ) (p q : ℕ) → inRow g (p * w * 64 + q) ≡ inMatrix w g p q
-unfolding inMatrix
-inRow-flat w g p q =
-    let split : p * w * 64 + q ≡ (p * w + q / 64) * 64 + q % 64 = omega arith in
-    ap (inRow g) split ∙ inRow-at g (p * w + q / 64) (q % 64) (mod-lt q (omega arith))
-
-pub matrix-included : (n : ℕ) (a b : List ℕ) → Matrix n a → includedBelow (length a * 64) (inRow a) (inRow b) ≡ withinBelow n (relationOf n a) (relationOf n b)
-unfolding includedBelow withinBelow
-matrix-included n a b ok = bool-iff there back
-  where
-    w : ℕ
-    w = rowWords n
-
-    at : (p q : ℕ) → (inRow a (p * w * 64 + q) ⇒ inRow b (p * w * 64 + q)) ≡ (relationOf n a p q ⇒ relationOf n b p q)
-    at p q = ap₂ _⇒_ (inRow-flat w a p q) (inRow-flat w b p q)
-
-    there : allBelow (length a * 64) (λ x. inRow a x ⇒ inRow b x) ≡ true → allBelow n (λ p. allBelow n (λ q. relationOf n a p q ⇒ relationOf n b p q)) ≡ true
-    there e = all-of n _ (λ p hp. all-of n _ (λ q hq.
-        sym (at p q) ∙ all-at _ _ e (p * w * 64 + q) (omega (arith, pair-word n a hp hq (ok .long)))))
-
-    back : allBelow n (λ p. allBelow n (λ q. relationOf n a p q ⇒ relationOf n b p q)) ≡ true → allBelow (length a * 64) (λ x. inRow a x ⇒ inRow b x) ≡ true
-    back e = all-of _ _ (λ x hx.
-        let word : x / 64 < n * w = omega (arith, ok .long) in
-        let pos : 0 < w = width-positive n w word in
-        let p = x / 64 / w in
-        let q = x / 64 % w * 64 + x % 64 in
-        let hp : p < n = div-lt-iff-lt-mul pos .1 word in
-        let col : x / 64 % w < w = mod-lt (x / 64) pos in
-        let split : x ≡ p * w * 64 + q = omega (arith, div-add-mod' (x / 64) w) in
-        ap (λ (y : ℕ). inRow a y ⇒ inRow b y) split ∙ at p q
-        ∙ ⊎-elim (λ (h : q < n). all-at n _ (all-at n _ e p hp) q h)
-        (λ (h : n ≤ q). ap (λ (t : Bool). t ⇒ relationOf n b p q) (ok .clear p q hp h (omega arith))) (lt-or-ge q n))
 
 -- ---- what a start that keeps the rules is
 

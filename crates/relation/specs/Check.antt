@@ -11,10 +11,7 @@ use Rattle.lts.specs.declared.Refusal.the-variants.{Grid, NotReflexive, NotTran
 use Rattle.rows.specs.Rows.{rowWords}
 use Rattle.relation.specs.Matrix.{relationOf}
 
--- every pair of states in R is in S
-unfoldable pub withinBelow : ℕ → Rel → Rel → Bool
-withinBelow n R S = allBelow n (λ p. allBelow n (λ q. R p q ⇒ S p q))
-
+-- reflexive and transitive on the states below n, the latter at one pair, for one state, and for all
 unfoldable pub reflexiveBelow : ℕ → Rel → Bool
 reflexiveBelow n R = allBelow n (λ p. R p p)
 

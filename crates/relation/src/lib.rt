@@ -7,7 +7,7 @@ ghost use Rattle.lts.specs.Bounded.{_⇒_};
 ghost use Rattle.lts.specs.Rule.{check};
 ghost use Rattle.rows.specs.Rows.{inRow, rowOf, rowWords, statesBelow, Row};
 ghost use Rattle.relation.specs.Matrix.{inMatrix, matrixOf, relationOf, Matrix, pairCount, setRow, withoutStates};
-ghost use Rattle.relation.specs.Check.{withinBelow, reflexiveBelow, transitivePair, transitiveAt, transitiveBelow, clearAt, isMatrix, startRules};
+ghost use Rattle.relation.specs.Check.{reflexiveBelow, transitivePair, transitiveAt, transitiveBelow, clearAt, isMatrix, startRules};
 ghost use Rattle.relation.specs.Tested.{Left};
 
 // The words of a matrix on n states.
@@ -135,14 +135,6 @@ pub fn remove_common(grid: &mut [u64], n: usize, p: usize, a: &[u64], b: &[u64])
     let w = rows::row_words(n);
     let at = p * w;
     rows::row_minus_common(&mut grid[at..], a, b, w);
-}
-
-// Whether each pair of a is in b.
-pub fn matrix_within(a: &[u64], b: &[u64], n: usize) -> bool
-    requires { ⌜ Matrix n (now a) × Matrix n (now b) × (n ≤ 256) ⌝ }
-    ensures { λ r. ⌜ r ≡ withinBelow n (relationOf n (now (a .entry))) (relationOf n (now (b .entry))) ⌝ }
-{
-    rows::row_within(a, b, a.len())
 }
 
 // Whether row p has no bit at q ≥ n.

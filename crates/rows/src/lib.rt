@@ -191,21 +191,6 @@ pub fn row_differs(a: &[u64], b: &[u64], k: usize) -> bool
     false
 }
 
-// Whether some state is in the first k words of both a and b.
-pub fn row_meets(a: &[u64], b: &[u64], k: usize) -> bool
-    requires { ⌜ (k ≤ length (now a)) × (k ≤ length (now b)) ⌝ }
-    ensures { λ r. ⌜ r ≡ anyBelow (k * 64) (λ q. inRow (now (a .entry)) q && inRow (now (b .entry)) q) ⌝ }
-{
-    let mut c = 0;
-    while c < k {
-        if a[c] & b[c] != 0 {
-            return true;
-        }
-        c += 1;
-    }
-    false
-}
-
 // Whether every state in the first k words of a is in b.
 pub fn row_within(a: &[u64], b: &[u64], k: usize) -> bool
     requires { ⌜ (k ≤ length (now a)) × (k ≤ length (now b)) ⌝ }

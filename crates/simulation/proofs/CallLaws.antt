@@ -1,32 +1,33 @@
 -- The system of an encoding is its table's; and what the calls answer, by what reading and testing answer.
-use mathlib.Core.Path.{_≡_, refl, sym, ap, ap₂, _∙_}
-use mathlib.Core.Bool.{Bool, true, false, not, cond, _&&_}
+use mathlib.Core.Path.{_≡_, refl, sym, ap₂, _∙_}
+use mathlib.Core.Logic.{_↔_}
+use mathlib.Core.Bool.{Bool, true, false, not, cond}
 use mathlib.Core.List.{List, [], _∷_}
-use Prim.Native.Nat.{ℕ, _*_, _≤_, _<_}
-use native.Mathlib.Omega.{arith}
-use lib.Dec.{eqb}
+use Prim.Native.Nat.{ℕ, _*_}
+use lib.Dec.{T, eqb}
 use lib.ListN.{length}
 use borrow.Author.Tests.{eq-eqb, ne-eqb}
-use Rattle.lts.specs.Bounded.{_⇒_}
-use Rattle.lts.specs.System.{Lts, allStates, within, isSimulation, terminationPreorder}
+use Rattle.lts.specs.System.{Rel, Lts, within, answered, isSimulation, terminationPreorder}
 use Rattle.lts.specs.declared.Refusal.{Refusal}
 use Rattle.lts.specs.declared.Refusal.the-variants.{Grid, Buffer}
 use Rattle.lts.specs.declared.Checked.{Checked}
 use Rattle.lts.specs.declared.Checked.the-variants.{Passed, Refused as Unwritten}
 use Rattle.lts.specs.Rule.{_otherwise_, First, broken, given, checkedReply}
+use Rattle.lts.proofs.Bounded.{and-iff, test-ext}
+use Rattle.lts.proofs.System.{within-iff}
 use Rattle.lts.proofs.Rule.{stop, pass, done, first-part, second-part, refuses, passes}
 use Rattle.encoding.specs.declared.Header.{Header}
 use Rattle.encoding.specs.declared.Reading.the-variants.{Readable, Refused as Unreadable}
 use Rattle.encoding.specs.Encoding.{sheetRules, readEncoding}
 use Rattle.encoding.specs.Checked.{ReadableAs}
 use Rattle.encoding.specs.Denotation.{ltsOf}
-use Rattle.encoding.proofs.Denotation.{lts-states}
 use Rattle.encoding.proofs.Reader.{sheet-broken, sheet-kept}
 use Rattle.rows.specs.Rows.{rowWords}
 use Rattle.transitions.specs.Table.{statesOf, tableLts, Holds}
 use Rattle.transitions.proofs.Filled.{sheet-states}
 use Rattle.relation.specs.Matrix.{relationOf, matrixOf}
-use Rattle.relation.specs.Check.{withinBelow, isMatrix}
+use Rattle.relation.specs.Check.{isMatrix}
+use Rattle.conditions.specs.Conditions.{bothConditions}
 use Rattle.inputs.specs.Inputs.{inputRules, readInputs}
 use Rattle.inputs.proofs.Laws.{input-broken, input-kept}
 use Rattle.simulation.specs.declared.Tested.{Tested}
@@ -34,19 +35,33 @@ use Rattle.simulation.specs.declared.Tested.the-variants.{Yes, No, Refus
 use Rattle.simulation.specs.Calls.{terminationRules, terminationCall, TerminationPromise, isInside, simulationReply, simulationRules, simulationCall, SimulationPromise}
 use Rattle.simulation.proofs.Promise.{termination-promised, simulation-promised}
 
+-- ## A claim whose pairs meet the conditions is a simulation inside the start
+pairs-inside : (L : Lts) (start R : Rel) → within L R (bothConditions L start R) ≡ isInside L start R
+unfolding isInside isSimulation bothConditions
+pairs-inside L start R = test-ext _ _
+    (λ e. both .1 (
+      within-iff L R (answered L R) .1 (λ p q lp lq r. and-iff (start p q) (answered L R p q) .0 (within-iff L R (bothConditions L start R) .0 e p q lp lq r) .1),
+      within-iff L R start .1 (λ p q lp lq r. and-iff (start p q) (answered L R p q) .0 (within-iff L R (bothConditions L start R) .0 e p q lp lq r) .0),
+    ))
+    (λ e. within-iff L R (bothConditions L start R) .1 (λ p q lp lq r. and-iff (start p q) (answered L R p q) .1 (
+      within-iff L R start .0 (both .0 e .1) p q lp lq r,
+      within-iff L R (answered L R) .0 (both .0 e .0) p q lp lq r,
+    )))
+  where
+    both : T (isInside L start R) ↔ (T (isSimulation L R) × T (within L R start))
+    both = and-iff (isSimulation L R) (within L R start)
+
 -- ## The system of an encoding is its table's
 module _ (s : List ℕ) (h : Header) (g : ReadableAs s h) {t : List ℕ} (k : Holds (ltsOf s) t) where
   pub preorder-table : {grid : List ℕ} → grid ≡ matrixOf (statesOf t) (terminationPreorder (tableLts t)) → grid ≡ matrixOf (h .states) (terminationPreorder (ltsOf s))
   preorder-table e = e ∙ ap₂ (λ (n : ℕ) (L : Lts). matrixOf n (terminationPreorder L)) (sheet-states s h g k) (k .same)
 
-  pub inside-table : (start claim : List ℕ) → let n = h .states in
-      isSimulation (tableLts t) (relationOf (statesOf t) claim) && withinBelow n (relationOf n claim) (relationOf n start)
-      ≡ isInside (ltsOf s) (relationOf n start) (relationOf n claim)
-  unfolding isInside within allStates withinBelow
-  inside-table start claim =
-      let n = h .states in
-      ap₂ _&&_ (ap₂ (λ (L : Lts) (m : ℕ). isSimulation L (relationOf m claim)) (k .same) (sheet-states s h g k))
-      (ap (λ (m : ℕ). withinBelow m (relationOf n claim) (relationOf n start)) (sym (lts-states s h (g .header))))
+  pub inside-table : (start claim : List ℕ) {b : Bool}
+      → (let m = statesOf t in b ≡ within (tableLts t) (relationOf m claim) (bothConditions (tableLts t) (relationOf m start) (relationOf m claim)))
+      → b ≡ isInside (ltsOf s) (relationOf (h .states) start) (relationOf (h .states) claim)
+  inside-table start claim e =
+      e ∙ pairs-inside (tableLts t) (relationOf (statesOf t) start) (relationOf (statesOf t) claim)
+      ∙ ap₂ (λ (L : Lts) (m : ℕ). isInside L (relationOf m start) (relationOf m claim)) (k .same) (sheet-states s h g k)
 
 -- ## The end start
 -- what it says of its answer r and of the words g that it leaves

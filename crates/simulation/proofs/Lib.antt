@@ -1,4 +1,3 @@
-pub mod Answers
 pub mod Starts
 pub mod Promise
 pub mod CallLaws

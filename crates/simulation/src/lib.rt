@@ -1,46 +1,16 @@
-// Simulations and the termination preorder (document 01, "Grids"): the test on a transition table, and the calls on encodings.
+// The calls end start and test simulation (document 01, "Grids").
 ghost use mathlib.Core.Path.{_≡_};
-ghost use Prim.Native.Nat.{_*_, _<_};
+ghost use Prim.Native.Nat.{_*_};
 ghost use lib.ListN.{length};
-ghost use Rattle.lts.specs.System.{isSimulation, terminationPreorder};
+ghost use Rattle.lts.specs.System.{terminationPreorder};
 ghost use Rattle.lts.specs.Rule.{checkedReply};
 ghost use Rattle.encoding.specs.Checked.{ReadableAs};
 ghost use Rattle.encoding.specs.Denotation.{ltsOf};
 ghost use Rattle.rows.specs.Rows.{rowWords};
-ghost use Rattle.transitions.specs.Table.{statesOf, countOf, tableLts, Formed};
+ghost use Rattle.transitions.specs.Table.{statesOf, tableLts, Formed};
 ghost use Rattle.relation.specs.Matrix.{relationOf, matrixOf, Matrix};
-ghost use Rattle.simulation.specs.Simulation.{answeredAt};
 ghost use Rattle.simulation.specs.Calls.{terminationCall, TerminationPromise};
 ghost use Rattle.simulation.specs.Calls.{isInside, simulationReply, simulationCall, SimulationPromise};
-
-// Whether each state that the source of transition i is related to has an answer to it.
-fn answered_at(table: &transitions::Table, claim: &[u64], i: usize) -> bool
-    requires { ⌜ Formed (now table) × Matrix (statesOf (now table)) (now claim) × (i < countOf (now table)) ⌝ }
-    ensures { λ r. ⌜ r ≡ answeredAt (now (table .entry)) (relationOf (statesOf (now (table .entry))) (now (claim .entry))) i ⌝ }
-{
-    let n = transitions::states(table);
-    let mut set = [0u64; 4];
-    let reached = relation::row_at(claim, n, transitions::target(table, i));
-    transitions::add_into(table, transitions::action(table, i), reached, &mut set);
-    let related = relation::row_at(claim, n, transitions::source(table, i));
-    rows::row_within(related, &set, rows::row_words(n))
-}
-
-// Whether the matrix is a simulation of the table's system.
-fn simulates(table: &transitions::Table, claim: &[u64]) -> bool
-    requires { ⌜ Formed (now table) × Matrix (statesOf (now table)) (now claim) ⌝ }
-    ensures { λ r. ⌜ r ≡ isSimulation (tableLts (now (table .entry))) (relationOf (statesOf (now (table .entry))) (now (claim .entry))) ⌝ }
-{
-    let k = transitions::count(table);
-    let mut i = 0;
-    while i < k {
-        if !answered_at(table, claim, i) {
-            return false;
-        }
-        i += 1;
-    }
-    true
-}
 
 // What testing a simulation answers.
 pub enum Tested {
@@ -93,7 +63,7 @@ fn is_inside(s: &[u8], h: encoding::Header, start: &[u64], claim: &[u64]) -> boo
         ⌜ r ≡ isInside (ltsOf (now (s .entry))) (relationOf n (now (start .entry))) (relationOf n (now (claim .entry))) ⌝ }
 {
     let table = transitions::load(s, h);
-    simulates(&table, claim) & relation::matrix_within(claim, start, h.states)
+    conditions::claim_passes(&table, start, claim)
 }
 
 // Test simulation: whether the claim is a simulation and inside the start.

@@ -1,36 +1,25 @@
 -- The first transition of a state without an answer has the lowest action, then the lowest target. Assumes nothing.
-use Prim.Native.Nat.{ℕ, suc, _+_, _-_, _*_, _≤_, _<_}
+use Prim.Native.Nat.{ℕ, suc, _+_, _-_, _≤_, _<_}
 use mathlib.Core.Path.{_≡_, refl, sym, _∙_, ap, ap₂}
 use mathlib.Core.Logic.{_⊎_, inl, inr}
 use mathlib.Core.Bool.{Bool, true, false, not, _&&_}
 use mathlib.Core.List.{List}
 use native.Mathlib.Omega.{arith}
 use native.Mathlib.Nat.{eq-or-lt-of-le}
-use lib.ListN.{drop}
-use borrow.Author.Tests.{not-true}
-use Rattle.lts.specs.Bounded.{anyBelow, lowest}
+use borrow.Author.Tests.{not-true, not-false}
+use Rattle.lts.specs.Bounded.{lowest}
 use Rattle.lts.specs.System.{Rel, Lts, anyState, into, answered}
 use Rattle.lts.specs.Strategy.{unanswered}
 use Rattle.lts.proofs.Bounded.{restrict-at}
-use Rattle.lts.proofs.System.{answered-iff, into-to}
-use Rattle.lts.proofs.Below.{lt-or-ge, clash, either, true-T, T-true, and-fst, and-snd, any-yes, any-some, any-cong, any-shorter, lowest-is}
-use Rattle.rows.specs.Rows.{inRow, rowOf, rowWords}
-use Rattle.rows.proofs.Rows.{inRow-of}
-use Rattle.transitions.specs.Table.{statesOf, actionsOf, offsetAt, actionAt, targetAt, tableLts, Formed}
+use Rattle.lts.proofs.System.{answered-iff}
+use Rattle.lts.proofs.Below.{lt-or-ge, clash, either, T-true, and-fst, and-snd, any-yes, any-some, any-cong, lowest-is}
+use Rattle.rows.specs.Rows.{Next}
+use Rattle.transitions.specs.Table.{statesOf, actionsOf, countOf, offsetAt, actionAt, targetAt, tableLts, Formed}
 use Rattle.transitions.proofs.Entries.{InRow, Between, row-below, row-transition, transition-row, row-sorted, table-formed}
 use Rattle.relation.specs.Matrix.{relationOf}
-use Rattle.relation.proofs.Matrices.{inRow-drop}
-use Rattle.transitions.proofs.Lookups.{no-target}
+use Rattle.conditions.specs.Conditions.{answeredBy, unansweredBy}
+use Rattle.conditions.proofs.Answers.{transfer-all}
 use Rattle.strategy_write.specs.Writing.{pairsOf, Unanswered}
-
--- q has an answer into W to number i of the table t
-unfoldable pub answeredBy : List ℕ → Rel → ℕ → ℕ → Bool
-answeredBy t W q i = into (tableLts t) (actionAt t i) (W (targetAt t i)) q
-
-pub answered-is : (t : List ℕ) (W : Rel) (q i : ℕ) {a x : ℕ} {h : Bool} → h ≡ into (tableLts t) a (W x) q → a ≡ actionAt t i → x ≡ targetAt t i
-    → h ≡ answeredBy t W q i
-unfolding answeredBy
-answered-is t W q i e f g = e ∙ ap₂ (λ (a x : ℕ). into (tableLts t) a (W x) q) f g
 
 module _ (t : List ℕ) (ok : Formed t) where
   abbrev L : Lts
@@ -39,37 +28,18 @@ module _ (t : List ℕ) (ok : Formed t) where
   abbrev n : ℕ
   n = statesOf t
 
-  pub target-below : (p i : ℕ) → p < n → i < offsetAt t (p + 1) → targetAt t i < n
+  target-below : (p i : ℕ) → p < n → i < offsetAt t (p + 1) → targetAt t i < n
   target-below p i hp h = ok .target i (row-below t ok p hp i h)
 
-  -- ---- an answer of q, by a into row x of g: the set of its targets meets that row
-
-  pub answer-met : (g : List ℕ) (q a x : ℕ) {states words : ℕ} {set row : List ℕ} {met : Bool} → x < n → states ≡ n → words ≡ rowWords states
-      → set ≡ rowOf 4 (L .transition q a) → row ≡ drop (x * rowWords states) g → met ≡ anyBelow (words * 64) (λ r. inRow set r && inRow row r)
-      → met ≡ into L a (pairsOf t g x) q
-  unfolding into anyState tableLts
-  answer-met g q a x {states} {words} {set} {row} hx es ew gathered at e =
-      let size : words ≡ rowWords n = ew ∙ ap rowWords es in
-      let w : ℕ = rowWords n in
-      let here = at ∙ ap (λ (k : ℕ). drop (x * rowWords k) g) es in
-      e ∙ ap (λ (k : ℕ). anyBelow (k * 64) (λ r. inRow set r && inRow row r)) size
-      ∙ any-cong (w * 64) (λ r. inRow set r && inRow row r) (λ r. L .transition q a r && relationOf n g x r)
-      (λ r h. ap₂ (λ (b c : Bool). b && c)
-      (ap (λ (l : List ℕ). inRow l r) gathered ∙ inRow-of 4 (L .transition q a) r (omega (arith, h, ok .states)))
-      (ap (λ (l : List ℕ). inRow l r) here ∙ inRow-drop w g x r))
-      ∙ any-shorter n (w * 64) (λ r. L .transition q a r && relationOf n g x r) (omega arith)
-      (λ r l h. ap (λ (b : Bool). b && relationOf n g x r) (no-target t ok q a r l))
-      ∙ any-cong n _ _ (λ r h. ap (λ (b : Bool). L .transition q a r && b) (sym (restrict-at n (relationOf n g) x r hx h)))
+  -- the targets of a table are states
+  answered-pairs : (g : List ℕ) (q i : ℕ) → i < countOf t → answeredBy t (relationOf n g) q i ≡ answeredBy t (pairsOf t g) q i
+  unfolding answeredBy into anyState tableLts
+  answered-pairs g q i h =
+      any-cong n _ _ (λ r l. ap (λ (b : Bool). L .transition q (actionAt t i) r && b) (sym (restrict-at n (relationOf n g) (targetAt t i) r (ok .target i h) l)))
 
   -- ---- the first transition of p with no answer
 
   module _ (W : Rel) (p q : ℕ) (hp : p < n) where
-    pub answered-all : Between (λ i. answeredBy t W q i ≡ true) (offsetAt t p) (offsetAt t (p + 1)) → answered L W p q ≡ true
-    unfolding answeredBy
-    answered-all all = T-true _ (answered-iff (table-formed t ok) W p q .1 (λ a x move.
-        let i = transition-row t ok p hp a x (T-true _ move) in
-        into-to L a (W x) q (true-T _ (sym (ap₂ (λ (b y : ℕ). into L b (W y) q) (i .2) (i .3)) ∙ all (i .0) (i .1 .0) (i .1 .1)))))
-
     module _ (r : ℕ) (lr : offsetAt t p ≤ r) (hr : r < offsetAt t (p + 1)) (passed : Between (λ i. answeredBy t W q i ≡ true) (offsetAt t p) r)
         (here : answeredBy t W q r ≡ false) where
       -- what is unanswered stands at r or after it
@@ -142,6 +112,25 @@ module _ (t : List ℕ) (ok : Formed t) where
               case (inl l) = omega (arith, l)
               case (inr e) = omega (arith, h, e .1)
 
-      pub first-is : Unanswered t W p q r
+      first-is : Unanswered t W p q r
       unfolding some
       first-is = record { below = row-below t ok p hp r hr; action = lowest-action; target = lowest-target }
+
+  -- where there is one
+  pub first-lowest : (g : List ℕ) (p q : ℕ) → p < n → answered L (pairsOf t g) p q ≡ false → {r : ℕ}
+      → Next (unansweredBy t (relationOf n g) q) (offsetAt t (p + 1)) (offsetAt t p) r → Unanswered t (pairsOf t g) p q r
+  first-lowest g p q hp lacks {r} next = go (lt-or-ge r (offsetAt t (p + 1)))
+    where
+      W : Rel
+      W = pairsOf t g
+
+      passed : Between (λ i. answeredBy t W q i ≡ true) (offsetAt t p) r
+      passed i l h =
+          let high : i < offsetAt t (p + 1) = omega (arith, h, next .below) in
+          sym (answered-pairs g q i (row-below t ok p hp i high)) ∙ not-false _ (next .none i l h)
+
+      go : (r < offsetAt t (p + 1)) ⊎ (offsetAt t (p + 1) ≤ r) → Unanswered t W p q r
+      go (inl h) = first-is W p q hp r (next .above) h passed (sym (answered-pairs g q r (row-below t ok p hp r h)) ∙ not-true _ (next .member h))
+      go (inr h) =
+          let all = transfer-all t ok W p q hp (λ i l u. passed i l (omega (arith, u, h))) in
+          absurd (clash (T-true _ (answered-iff (table-formed t ok) W p q .1 all)) lacks)

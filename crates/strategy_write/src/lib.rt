@@ -5,48 +5,12 @@ ghost use mathlib.Core.List.{_∷_, [], _++_};
 ghost use Prim.Native.Nat.{_+_, _*_, _<_, _≤_};
 ghost use lib.ListN.{length, drop};
 ghost use lib.Seq.{sets};
-ghost use Rattle.lts.specs.System.{into, answered};
+ghost use Rattle.lts.specs.System.{answered};
 ghost use Rattle.lts.specs.Rounds.{refutationRound};
 ghost use Rattle.lts.specs.Strategy.{entryNumbers, entriesBefore, strategy, strategyLength};
 ghost use Rattle.transitions.specs.Table.{statesOf, tableLts, Formed};
 ghost use Rattle.relation.specs.Matrix.{relationOf, matrixOf, Matrix};
-ghost use Rattle.strategy_write.specs.Writing.{pairsOf, Consecutive, Unanswered, entryFrom, cellEntries, rowEntries, roundEntries, WrittenBefore};
-
-// Whether state q has a transition by a into row t of `before`.
-fn has_answer(table: &transitions::Table, before: &[u64], q: usize, a: usize, t: usize) -> bool
-    requires { ⌜ Formed (now table) × Matrix (statesOf (now table)) (now before) × (q < statesOf (now table)) × (t < statesOf (now table)) ⌝ }
-    ensures { λ r. ⌜ r ≡ into (tableLts (now (table .entry))) a (pairsOf (now (table .entry)) (now (before .entry)) t) q ⌝ }
-{
-    let n = transitions::states(table);
-    rows::row_meets(
-        &transitions::successors(table, q, a),
-        relation::row_at(before, n, t),
-        rows::row_words(n),
-    )
-}
-
-// The first transition of p to which q has no answer into `before`.
-fn first_unanswered(table: &transitions::Table, before: &[u64], p: usize, q: usize) -> usize
-    requires { ⌜ Formed (now table) × Matrix (statesOf (now table)) (now before) × (p < statesOf (now table)) × (q < statesOf (now table)) ⌝ }
-    requires { ⌜ answered (tableLts (now table)) (pairsOf (now table) (now before)) p q ≡ false ⌝ }
-    ensures { λ r. ⌜ Unanswered (now (table .entry)) (pairsOf (now (table .entry)) (now (before .entry))) p q r ⌝ }
-{
-    let end = transitions::offset(table, p + 1);
-    let mut i = transitions::offset(table, p);
-    while i < end {
-        if !has_answer(
-            table,
-            before,
-            q,
-            transitions::action(table, i),
-            transitions::target(table, i),
-        ) {
-            return i;
-        }
-        i += 1;
-    }
-    end
-}
+ghost use Rattle.strategy_write.specs.Writing.{pairsOf, Consecutive, entryFrom, cellEntries, rowEntries, roundEntries, WrittenBefore};
 
 // Writes one entry.
 fn put_entry(numbers: &mut [u16], at: usize, p: u16, q: u16, a: u16, t: u16)
@@ -85,7 +49,7 @@ fn write_pair(
         put_entry(numbers, at, p as u16, q as u16, 0, 0);
         return;
     }
-    let i = first_unanswered(table, before, p, q);
+    let i = conditions::first_unanswered(table, before, p, q);
     put_entry(
         numbers,
         at,

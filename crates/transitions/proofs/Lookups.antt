@@ -1,22 +1,22 @@
 -- Sets that are gathered from a table, number by number. Assumes nothing.
 use Prim.Native.Nat.{ℕ, _+_, _≤_, _<_}
-use mathlib.Core.Path.{_≡_, refl, sym, ap, _∙_, subst, subst⁻¹}
+use mathlib.Core.Path.{_≡_, refl, sym, ap, ap₂, _∙_, subst, subst⁻¹}
 use mathlib.Core.Logic.{_⊎_, inl, inr, ⊎-elim}
 use mathlib.Core.Bool.{Bool, true, false, _&&_, _||_, and-false, and-true}
 use mathlib.Core.List.{List}
 use native.Mathlib.Omega.{arith}
-use lib.Dec.{T, eqb, ltb, eqb→eq}
-use lib.ListN.{length, replicate}
+use lib.Dec.{T, eqb, eqb→eq}
+use lib.ListN.{replicate}
 use borrow.Author.Tests.{eq-eqb, ne-eqb, lt-ltb, le-ltb, eqb-true}
 use Rattle.lts.specs.Bounded.{anyBelow}
 use Rattle.lts.specs.System.{Set, into}
 use Rattle.lts.proofs.Bounded.{and-iff, any-iff, test-ext}
-use Rattle.lts.proofs.Below.{eqb-sym, lt-or-ge, either, true-T, any-no, any-yes, any-shorter, and-fst, and-snd, clash}
+use Rattle.lts.proofs.Below.{eqb-sym, lt-or-ge, either, true-T, T-true, neither, any-no, any-yes, any-shorter, and-fst, and-snd, clash}
 use Rattle.lts.proofs.System.{into-to, into-from}
 use Rattle.rows.specs.Rows.{inRow, rowOf}
 use Rattle.rows.proofs.Rows.{gathered, rowOf-cong, inRow-of, inRow-zeros}
 use Rattle.transitions.specs.Table.{statesOf, countOf, markAt, offsetAt, sourceAt, actionAt, targetAt, isEntry, enters, tableLts, Formed}
-use Rattle.transitions.proofs.Entries.{eqb-of, entry-leads, entry-of, table-formed, offset-most}
+use Rattle.transitions.proofs.Entries.{eqb-of, entry-leads, entry-of, table-formed, offset-most, InRow, Between, between-none, between-more, row-transition, transition-row}
 
 -- what was gathered, by another test of the same states
 pub gathered-same : (H : ℕ → ℕ → Bool) (i : ℕ) (S : Set) → ((q : ℕ) → q < 256 → anyBelow i (H q) ≡ S q) → gathered (replicate 4 0) H i ≡ rowOf 4 S
@@ -141,3 +141,39 @@ module _ (t : List ℕ) (a : ℕ) (X : Set) where
           let f = and-iff (eqb q (sourceAt t j)) (eqb (actionAt t j) a && X (targetAt t j)) .0 (s .2) in
           let g = and-iff (eqb (actionAt t j) a) (X (targetAt t j)) .0 (f .1) in
           into-from (table-formed t ok) a X q (targetAt t j, entry-leads t j (s .1) (sym (eqb→eq _ _ (f .0))) (eqb→eq _ _ (g .0)) refl, g .1)
+
+  -- along the row of p, what was found below number i: one that enters X, or none
+  pub record Looked (p i : ℕ) (found : Bool) : Type 0 where
+    pub some : found ≡ true → true ≡ into (tableLts t) a X p
+    pub none : found ≡ false → Between (λ j. enters t a X j ≡ false) (offsetAt t p) i
+
+  pub looked-start : (p i : ℕ) → i ≤ offsetAt t p → Looked p i false
+  looked-start p i l = record { some = λ e. absurd (clash e refl); none = λ _. between-none _ _ _ l }
+
+  module _ (ok : Formed t) (p : ℕ) (hp : p < statesOf t) where
+    into-found : (i : ℕ) → InRow t ok p i → enters t a X i ≡ true → true ≡ into (tableLts t) a X p
+    unfolding enters
+    into-found i r e = sym (T-true _ (into-from (table-formed t ok) a X p (
+      targetAt t i,
+      true-T _ (row-transition t ok p hp i r (eqb-true _ _ (and-fst (eqb (actionAt t i) a) (X (targetAt t i)) e)) refl),
+      true-T _ (and-snd (eqb (actionAt t i) a) (X (targetAt t i)) e),
+    )))
+
+    into-none : Between (λ i. enters t a X i ≡ false) (offsetAt t p) (offsetAt t (p + 1)) → false ≡ into (tableLts t) a X p
+    unfolding enters
+    into-none none = ⊎-elim (λ (e : into (tableLts t) a X p ≡ true).
+        let s = into-to (tableLts t) a X p (true-T _ e) in
+        let i = transition-row t ok p hp a (s .0) (T-true _ (s .1)) in
+        let here : eqb (actionAt t (i .0)) a && X (targetAt t (i .0)) ≡ true = ap₂ _&&_ (eq-eqb (actionAt t (i .0)) a (i .2)) (ap X (i .3) ∙ T-true _ (s .2)) in
+        absurd (clash here (none (i .0) (i .1 .0) (i .1 .1)))) sym (either (into (tableLts t) a X p))
+
+    pub looked-more : (i : ℕ) (found here : Bool) → Looked p i found → InRow t ok p i → here ≡ enters t a X i → Looked p (i + 1) (found || here)
+    looked-more i found here l r e = record {
+      some = λ h. ⊎-elim (λ (f : found ≡ true). l .some f)
+          (λ (f : found ≡ false). into-found i r (sym e ∙ sym (ap (λ (b : Bool). b || here) f) ∙ h)) (either found);
+      none = λ h. let both = neither found here h in between-more _ _ _ (l .none (both .0)) (sym e ∙ both .1);
+    }
+
+    pub looked-done : (i : ℕ) (found : Bool) → Looked p i found → offsetAt t (p + 1) ≤ i → found ≡ into (tableLts t) a X p
+    looked-done i found l high = ⊎-elim (λ (f : found ≡ true). f ∙ l .some f)
+        (λ (f : found ≡ false). f ∙ into-none (λ j low below. l .none f j low (omega (arith, below, high)))) (either found)

@@ -462,6 +462,21 @@ fn enters_at(table: &Table, a: usize, x: &[u64], i: usize) -> bool
     (action(table, i) == a) & rows::contains(x, target(table, i))
 }
 
+// Whether state p has a transition by action a into the set x. Each of p's is looked at, without a branch.
+pub fn has_into(table: &Table, p: usize, a: usize, x: &[u64]) -> bool
+    requires { ⌜ Formed (now table) × (p < statesOf (now table)) × (rowWords (statesOf (now table)) ≤ length (now x)) ⌝ }
+    ensures { λ r. ⌜ r ≡ into (tableLts (now (table .entry))) a (inRow (now (x .entry))) p ⌝ }
+{
+    let end = offset(table, p + 1);
+    let mut found = false;
+    let mut i = offset(table, p);
+    while i < end {
+        found = found | enters_at(table, a, x, i);
+        i += 1;
+    }
+    found
+}
+
 // Puts the states that have a transition by action a into the set x into `set`.
 pub fn add_into(table: &Table, a: usize, x: &[u64], set: &mut [u64])
     requires { ⌜ Formed (now table) × (rowWords (statesOf (now table)) ≤ length (now x)) × (rowWords (statesOf (now table)) ≤ length (now set)) ⌝ }

@@ -1,10 +1,12 @@
 -- `strategy_write::write_pair` meets its contract: the entry of a pair that leaves. Assumes nothing.
 use Prim.Native.Nat.{_*_}
 use mathlib.Core.Path.{_∙_, ap}
+use native.Mathlib.Omega.{arith}
 use lib.Seq.{sets}
 use denote.Ref.{now}
 use Rattle.transitions.specs.Table.{tableLts}
-use Rattle.strategy_write.specs.Writing.{pairsOf}
+use Rattle.strategy_write.specs.Writing.{pairsOf, Unanswered}
+use Rattle.strategy_write.proofs.Answers.{first-lowest}
 use Rattle.strategy_write.proofs.Writes.{pair-first, pair-later}
 use borrow.Author.Needs.{needs}
 use Rattle.strategy_write.proofs.write_pair.Statement.{statement}
@@ -29,8 +31,15 @@ returns c = let s = c .before .before .before .before .before .before .before in
     c .before .before .put-entry .ensures ∙ ap (sets (now (a .numbers)) (4 * a .at)) (pair-first (tableLts t) (pairsOf t (now (a .before))) (a .p) (a .q) (c .before .before .before .before .if1 .taken))
 
 first-unanswered-requires : tie.Need-first-unanswered-requires
-first-unanswered-requires c κs = let s = c .before .before .before in
-    ((s .pre .0 .0, s .pre .0 .1, s .pre .0 .2, s .pre .0 .3), s .pre .1 (c .if1 .left))
+first-unanswered-requires c κs = search needs
+
+-- the transition that is written
+first : (c : tie.After-first-unanswered) → let a = c .before .before .before .before .args in
+    Unanswered (now (a .table)) (pairsOf (now (a .table)) (now (a .before))) (a .p) (a .q) (c .first-unanswered .result)
+first c =
+    let s = c .before .before .before .before in
+    let a = s .args in
+    first-lowest (now (a .table)) (s .pre .0 .0) (now (a .before)) (a .p) (a .q) (s .pre .0 .2) (s .pre .1 (c .before .if1 .left)) (c .first-unanswered .ensures)
 
 cast-put-entry-3 : tie.Need-cast-put-entry-3
 cast-put-entry-3 c = search needs
@@ -39,13 +48,13 @@ cast-put-entry-4 : tie.Need-cast-put-entry-4
 cast-put-entry-4 c = search needs
 
 action-requires : tie.Need-action-requires
-action-requires c κs = search needs
+action-requires c κs = omega (arith, first (c .before) .below, c .before .before .before .before .before .pre .0 .0 .size)
 
 cast-put-entry-5 : tie.Need-cast-put-entry-5
 cast-put-entry-5 c = search needs
 
 target-requires : tie.Need-target-requires
-target-requires c κs = search needs
+target-requires c κs = omega (arith, first (c .before .before) .below, c .before .before .before .before .before .before .pre .0 .0 .size)
 
 cast-put-entry-6 : tie.Need-cast-put-entry-6
 cast-put-entry-6 c = search needs
@@ -61,7 +70,7 @@ returns-2 c = let s = c .before .before .before .before .before .before .before 
     let a = s .args in
     let t = now (a .table) in
     c .before .before .put-entry2 .ensures ∙ ap (sets (now (a .numbers)) (4 * a .at)) (pair-later t (pairsOf t (now (a .before))) (a .p) (a .q) _ (c .before .before .before .before .before .before .before .if1 .left)
-    (c .before .before .before .before .before .before .first-unanswered .ensures) (c .before .before .before .before .action .ensures .0) (c .before .before .before .target .ensures .0))
+    (first (c .before .before .before .before .before .before)) (c .before .before .before .before .action .ensures .0) (c .before .before .before .target .ensures .0))
 
 pub write-pair-spec : {M : Type 1} → statement M
 write-pair-spec =
