@@ -23,8 +23,8 @@ pub same-test : {a b : Bool} → a ≡ b → T a ↔ T b
 same-test e = (subst T e, subst T (sym e))
 
 -- a test that decides another and passes
-pub passes : (r b : Bool) → r ≡ true → T r ↔ T b → T b
-passes r b e d = d .0 (true-T r e)
+pub premise-met : (r b : Bool) → r ≡ true → T r ↔ T b → T b
+premise-met r b e d = d .0 (true-T r e)
 
 module _ (L : Lts) (start R : Rel) (p q : ℕ) where
   pub starting-fails : (s : Bool) → T s ↔ Starting start p q → s ≡ false → false ≡ bothConditions L start R p q

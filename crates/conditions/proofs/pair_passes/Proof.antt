@@ -2,7 +2,7 @@
 use denote.Ref.{now}
 use Rattle.lts.proofs.Below.{true-T}
 use Rattle.transitions.proofs.Entries.{table-formed}
-use Rattle.conditions.proofs.Pairs.{passes, starting-fails, transfer-decides}
+use Rattle.conditions.proofs.Pairs.{premise-met, starting-fails, transfer-decides}
 use borrow.Author.Needs.{needs}
 use Rattle.conditions.proofs.pair_passes.Statement.{statement}
 use Rattle.conditions.proofs.pair_passes.Tie as tie
@@ -12,7 +12,7 @@ starting-condition-requires c κs = search needs
 
 -- the premise of the second condition is searched for, and found where the first has passed before
 transfer-condition-requires : tie.Need-transfer-condition-requires
-transfer-condition-requires c κs = (search needs, search passes depth 1)
+transfer-condition-requires c κs = (search needs, search premise-met depth 1)
 
 returns : tie.Need-returns
 returns c =
