@@ -1,14 +1,16 @@
--- F1 to F6 of document 01, computed from the definitions, and the smallest systems that tell the refinement rule from four near misses.
+-- F1 to F6 of document 01 and the depths of document 02's L8, computed from the definitions, and the smallest systems that tell the
+-- refinement rule from four near misses.
 use Prim.Native.Nat.{ℕ}
 use mathlib.Core.Bool.{Bool, true, false, not, _&&_, _||_, xor}
 use mathlib.Core.List.{List, [], _∷_}
 use lib.Dec.{T, eqb}
-use Rattle.lts.specs.Bounded.{anyBelow, allBelow, sumBelow, countBelow, passing, concatBelow, lowest, restrict}
+use Rattle.lts.specs.Bounded.{anyBelow, allBelow, sumBelow, largestBelow, countBelow, passing, concatBelow, lowest, restrict}
 use Rattle.lts.specs.System.{Lts, allStates, anyState, allActions, anyAction, into, terminationPreorder, answered}
 use Rattle.lts.specs.Refinement.{run, step, stepOf, eachAction, chosen, pending, isRepresentative, representative, block, coarsest, initial, pairCount, blockCount, refine, split, prune, remove}
 use Rattle.lts.specs.Rounds.{round, refutedAt, refutationRound}
 use Rattle.lts.specs.declared.Entry.{Entry}
 use Rattle.lts.specs.Strategy.{holds, sound, allSound, accepted, entryAt, unanswered, entriesIn, entriesBefore, strategyAt, strategy, entryNumbers, entriesOf}
+use Rattle.lts.specs.Depth.{depthsAt, least, leastDepth, depthOver, measure, measured, firstDepth, depthOf}
 use Rattle.lts.specs.Game.{defenderLoses, challengerWins}
 
 -- the transitions of a list
@@ -68,3 +70,30 @@ cases : T
     && gives (system 2 1 2 ((1, 1, 1) ∷ [])) (5 ∷ []) 1 3 2)
 unfolding listed system gives sameNumbers five accepts wins F1 F2 F3 F4 anyBelow allBelow sumBelow countBelow passing concatBelow lowest restrict allStates anyState allActions anyAction into terminationPreorder answered run step stepOf eachAction chosen pending isRepresentative representative block coarsest initial pairCount blockCount refine split prune remove round refutedAt refutationRound holds sound allSound accepted entryAt unanswered entriesIn entriesBefore strategyAt strategy entryNumbers entriesOf defenderLoses challengerWins xor
 cases = tt
+
+-- ---- L8
+
+-- (0, 2) falls at round 1, by 0, 2, 1, since 2 has no transition by 2; by 0, 1, 1 it takes a round more
+D : Lts
+D = system 6 2 6 ((0, 1, 1) ∷ (0, 2, 1) ∷ (1, 1, 1) ∷ (2, 1, 3) ∷ (4, 1, 0) ∷ (5, 1, 2) ∷ [])
+
+-- the replies to 0, 1, 1 from 2 are 3, with (1, 3) outside the preorder, and 4, with (1, 4) at depth 1
+E : Lts
+E = system 5 2 1 ((0, 1, 1) ∷ (1, 2, 1) ∷ (2, 1, 3) ∷ (2, 1, 4) ∷ [])
+
+deep : Lts → List ℕ → ℕ → Bool
+deep L xs d = accepted L (terminationPreorder L) (entriesOf xs) && eqb (depthOf L (entriesOf xs)) d
+
+-- F5 has depth 2, its first entry alone 1; an entry with a = 0 has 0. In D an entry for (0, 2) has depth 2, deeper than the written one,
+-- which has 1. One that cites (0, 2) counts the least of the two, whichever stands first; the last entry's depth counts, not the deepest's.
+-- In E the largest over two replies counts.
+depth-cases : T
+    (deep F3 five 2 && deep F3 (0 ∷ 1 ∷ 1 ∷ 1 ∷ []) 1 && deep (system 2 0 0 []) (0 ∷ 1 ∷ 0 ∷ 0 ∷ []) 0
+    && deep D (1 ∷ 3 ∷ 1 ∷ 1 ∷ 0 ∷ 2 ∷ 1 ∷ 1 ∷ []) 2 && deep D (0 ∷ 2 ∷ 2 ∷ 1 ∷ []) 1
+    && deep D (1 ∷ 3 ∷ 1 ∷ 1 ∷ 0 ∷ 2 ∷ 1 ∷ 1 ∷ 4 ∷ 5 ∷ 1 ∷ 0 ∷ []) 3
+    && deep D (1 ∷ 3 ∷ 1 ∷ 1 ∷ 0 ∷ 2 ∷ 1 ∷ 1 ∷ 0 ∷ 2 ∷ 2 ∷ 1 ∷ 4 ∷ 5 ∷ 1 ∷ 0 ∷ []) 2
+    && deep D (0 ∷ 2 ∷ 2 ∷ 1 ∷ 1 ∷ 3 ∷ 1 ∷ 1 ∷ 0 ∷ 2 ∷ 1 ∷ 1 ∷ 4 ∷ 5 ∷ 1 ∷ 0 ∷ []) 2
+    && deep D (1 ∷ 3 ∷ 1 ∷ 1 ∷ 0 ∷ 2 ∷ 1 ∷ 1 ∷ 0 ∷ 2 ∷ 2 ∷ 1 ∷ []) 1
+    && deep E (1 ∷ 3 ∷ 0 ∷ 0 ∷ 1 ∷ 4 ∷ 2 ∷ 1 ∷ 0 ∷ 2 ∷ 1 ∷ 1 ∷ []) 2)
+unfolding listed system F3 five D E deep anyBelow allBelow largestBelow allStates terminationPreorder holds sound allSound accepted entriesOf depthsAt least leastDepth depthOver measure measured firstDepth depthOf
+depth-cases = tt

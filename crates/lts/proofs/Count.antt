@@ -1,15 +1,15 @@
 -- Counts, lists of passing numbers and the lowest passing number.
-use Prim.Native.Nat.{ℕ, zero, suc, _+_, _*_, _≤_, _<_, zero-le, suc-le-suc}
+use Prim.Native.Nat.{ℕ, zero, suc, _+_, _*_, _≤_, _<_, max, zero-le, suc-le-suc}
 use native.Mathlib.Nat.{eq-or-lt-of-le, le-refl, le-trans, le-step, lt-suc-self, not-suc-le-zero, le-of-suc-le-suc, zero-lt-suc, add-le-add}
 use native.Mathlib.Omega.{arith}
-use native.Mathlib.Decide.{ℕ-discrete}
+use native.Mathlib.Decide.{ℕ-discrete, decLe}
 use mathlib.Core.Path.{_≡_, refl, sym, _∙_, ap, subst, fun-ext}
 use mathlib.Core.Logic.{_⊎_, inl, inr, ⊎-elim}
 use mathlib.Core.Bool.{Bool, true, false, cond, _||_}
 use mathlib.Core.List.{List, [], _∷_, _++_, append-nil}
 use lib.Dec.{T}
 use lib.ListN.{length, getD, length-append}
-use Rattle.lts.specs.Bounded.{anyBelow, sumBelow, countBelow, passing, concatBelow, lowest}
+use Rattle.lts.specs.Bounded.{anyBelow, sumBelow, largestBelow, countBelow, passing, concatBelow, lowest}
 use Rattle.lts.proofs.Bounded.{below-suc}
 
 pub sum-le : (n : ℕ) (f g : ℕ → ℕ) → ((i : ℕ) → i < n → f i ≤ g i) → sumBelow n f ≤ sumBelow n g
@@ -59,6 +59,55 @@ sum-least (suc n) f h = let t = sum-least n f (λ i l. h i (le-step l)) in omega
 
 pub sum-cong : (n : ℕ) (f g : ℕ → ℕ) → ((i : ℕ) → f i ≡ g i) → sumBelow n f ≡ sumBelow n g
 sum-cong n f g h = ap (sumBelow n) (fun-ext h)
+
+-- the largest is at least each, and at most any bound of all
+pub largest-least : (n : ℕ) (f : ℕ → ℕ) (i : ℕ) → i < n → f i ≤ largestBelow n f
+unfolding largestBelow
+largest-least zero f i l = absurd (not-suc-le-zero l)
+largest-least (suc n) f i l = go (λ m. largest-least n f i m) (below-suc l)
+  where
+    go : (i < n → f i ≤ largestBelow n f) → (i < n) ⊎ (i ≡ n) → f i ≤ max (largestBelow n f) (f n)
+    go ih (inl m) = omega (arith, ih m)
+    go ih (inr e) = omega (arith, ap f e)
+
+pub largest-most : (n c : ℕ) (f : ℕ → ℕ) → ((i : ℕ) → i < n → f i ≤ c) → largestBelow n f ≤ c
+unfolding largestBelow
+largest-most zero c f h = zero-le
+largest-most (suc n) c f h =
+    let t = largest-most n c f (λ i l. h i (le-step l)) in
+    let u = h n (lt-suc-self n) in
+    omega (arith, t, u)
+
+-- the largest over those that pass is 0 or that of one; so it is that of one, where one passes
+pub largest-some : (n : ℕ) (passes : ℕ → Bool) (f : ℕ → ℕ)
+    → (largestBelow n (λ x. cond (passes x) (f x) 0) ≡ 0) ⊎ ((j : ℕ) × T (passes j) × (f j ≡ largestBelow n (λ x. cond (passes x) (f x) 0)))
+unfolding largestBelow
+largest-some zero passes f = inl refl
+largest-some (suc n) passes f = go (passes n) (λ u. u) (decLe top (f n)) (largest-some n passes f)
+  where
+    top : ℕ
+    top = largestBelow n (λ x. cond (passes x) (f x) 0)
+
+    go : (b : Bool) → (T b → T (passes n)) → Dec (top ≤ f n) → (top ≡ 0) ⊎ ((j : ℕ) × T (passes j) × (f j ≡ top))
+        → (max top (cond b (f n) 0) ≡ 0) ⊎ ((j : ℕ) × T (passes j) × (f j ≡ max top (cond b (f n) 0)))
+    go false u d (inl z) = inl (omega (arith, z))
+    go false u d (inr j) = inr (j .0, j .1, omega (arith, j .2))
+    go true u (yes h) s = inr (n, u tt, omega (arith, h))
+    go true u (no h) (inl z) = absurd (h (omega (arith, z)))
+    go true u (no h) (inr j) = inr (j .0, j .1, omega (arith, h, j .2))
+
+pub largest-found : (n : ℕ) (passes : ℕ → Bool) (f : ℕ → ℕ) (i : ℕ) → i < n → T (passes i)
+    → (j : ℕ) × T (passes j) × (f j ≡ largestBelow n (λ x. cond (passes x) (f x) 0))
+largest-found n passes f i l t = go (largest-some n passes f) (own (passes i) t)
+  where
+    own : (b : Bool) → T b → cond b (f i) 0 ≡ f i
+    own true u = refl
+    own false u = absurd u
+
+    go : (largestBelow n (λ x. cond (passes x) (f x) 0) ≡ 0) ⊎ ((j : ℕ) × T (passes j) × (f j ≡ largestBelow n (λ x. cond (passes x) (f x) 0)))
+        → cond (passes i) (f i) 0 ≡ f i → (j : ℕ) × T (passes j) × (f j ≡ largestBelow n (λ x. cond (passes x) (f x) 0))
+    go (inr j) e = j
+    go (inl z) e = (i, t, omega (arith, z, e, largest-least n (λ x. cond (passes x) (f x) 0) i l))
 
 -- the length of lists one after the other
 pub length-concat {ℓ} : {A : Type ℓ} (n : ℕ) (f : ℕ → List A) → length (concatBelow n f) ≡ sumBelow n (λ i. length (f i))

@@ -8,6 +8,7 @@ pub mod Schedule
 pub mod Rounds
 pub mod Game
 pub mod Strategy
+pub mod Depth
 pub mod Union
 pub mod Demand
 pub mod Cases

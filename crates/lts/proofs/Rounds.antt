@@ -6,15 +6,15 @@ use mathlib.Core.Path.{_≡_, refl, sym, ap, subst}
 use mathlib.Core.Logic.{_⊎_, inl, inr, _↔_}
 use mathlib.Core.Bool.{not, _&&_}
 use lib.Dec.{T}
-use Rattle.lts.specs.Bounded.{anyBelow, countBelow}
+use Rattle.lts.specs.Bounded.{anyBelow}
 use Rattle.lts.specs.System.{Rel, Lts, WellFormed, answered, Relation, Simulation, Answered}
 use Rattle.lts.specs.Refinement.{pairCount}
 use Rattle.lts.specs.Rounds.{round, refutedAt, refutationRound}
 use Rattle.lts.proofs.Bounded.{and-iff, not-iff, dec, any-iff, restrict-iff}
-use Rattle.lts.proofs.Count.{sum-lt, count-le, count-lt, lowest-passes}
+use Rattle.lts.proofs.Count.{lowest-passes}
 use Rattle.lts.proofs.System.{answered-iff}
 use Rattle.lts.proofs.Step.{On}
-use Rattle.lts.proofs.Run.{Coarsest, pair-count-most}
+use Rattle.lts.proofs.Run.{Coarsest, pair-count-most, pair-count-lt}
 
 module _ (L : Lts) (wf : WellFormed L) (preorder : Rel) where
   abbrev W : ℕ → Rel
@@ -49,7 +49,6 @@ module _ (L : Lts) (wf : WellFormed L) (preorder : Rel) where
   Stable j = (p q : ℕ) → On (W j) p q → On (W (suc j)) p q
 
   stable-or-less : (j : ℕ) → Stable j ⊎ (pairCount L (W (suc j)) < pairCount L (W j))
-  unfolding pairCount
   stable-or-less j = go (dec (anyBelow n (λ p. anyBelow n (lost p))))
     where
       n : ℕ
@@ -73,9 +72,7 @@ module _ (L : Lts) (wf : WellFormed L) (preorder : Rel) where
           let p = any-iff n (λ p. anyBelow n (lost p)) .0 t in
           let q = any-iff n (lost (p .0)) .0 (p .2) in
           let e = and-iff (W j (p .0) (q .0)) (not (W (suc j) (p .0) (q .0))) .0 (q .2) in
-          inr
-          (sum-lt n (λ g. countBelow n (W (suc j) g)) (λ g. countBelow n (W j g)) (λ g _. count-le n (W (suc j) g) (W j g) (λ h _. less g h)) (p .0) (p .1)
-          (count-lt n (W (suc j) (p .0)) (W j (p .0)) (λ h _. less (p .0) h) (q .0) (q .1) (not-iff (W (suc j) (p .0) (q .0)) .0 (e .1)) (e .0)))
+          inr (pair-count-lt L (W (suc j)) (W j) less (p .0) (q .0) (p .1) (q .1) (not-iff (W (suc j) (p .0) (q .0)) .0 (e .1)) (e .0))
 
   stable-by : (k : ℕ) → ((j : ℕ) × (j < k) × Stable j) ⊎ (pairCount L (W k) + k ≤ L .states * L .states)
   stable-by zero = inr (le-trans (le-of-eq (add-zero (pairCount L (W zero)))) (pair-count-most L (W zero)))
@@ -119,7 +116,7 @@ module _ (L : Lts) (wf : WellFormed L) (preorder : Rel) where
   refuted-out (suc j) p q t = not-iff (W (suc j) p q) .0 (and-iff (W j p q) (not (W (suc j) p q)) .0 t .1)
 
   -- later rounds are smaller, so a pair falls once
-  round-antitone : (i j p q : ℕ) → i ≤ j → On (W j) p q → On (W i) p q
+  pub round-antitone : (i j p q : ℕ) → i ≤ j → On (W j) p q → On (W i) p q
   round-antitone i zero p q l t = subst (λ (k : ℕ). On (W k) p q) (sym (le-antisymm l zero-le)) t
   round-antitone i (suc j) p q l t = go (le-suc-iff .0 l) (λ m. round-antitone i j p q m (next-iff j p q .0 t .0))
     where
@@ -154,6 +151,16 @@ module _ (L : Lts) (wf : WellFormed L) (preorder : Rel) where
       go (inl l) = absurd (refuted-late i j p q l f g)
       go (inr (inl l)) = absurd (refuted-late j i p q l g f)
       go (inr (inr e)) = e
+
+  -- a pair that falls does so at the round `refutationRound`
+  pub refutation-round-is : (p q j : ℕ) → T (refutedAt L preorder j p q) → refutationRound L preorder p q ≡ j
+  unfolding refutationRound
+  refutation-round-is p q j f =
+      let s = stable-round in
+      let sim = stable-simulates (s .0) (s .2) in
+      let r = refuted-by (s .0) p q (λ w. refuted-out j p q f (round-contains (On (W (s .0))) sim j p q w)) in
+      let c = lowest-passes (suc (L .states * L .states)) (λ i. refutedAt L preorder i p q) (r .0) (suc-le-suc (le-trans (r .1) (s .1))) (r .2) in
+      refuted-once (refutationRound L preorder p q) j p q (c .1) f
 
   -- A pair outside the coarsest simulation falls, by round n * n, and then `refutationRound` is its round.
   pub dropped-refuted : (K : Rel) → Coarsest L preorder K → (p q : ℕ) → (On K p q → ⊥) → T (refutedAt L preorder (refutationRound L preorder p q) p q)

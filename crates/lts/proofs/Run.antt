@@ -12,9 +12,38 @@ use Rattle.lts.specs.Bounded.{_⇒_, countBelow, passing, lowest}
 use Rattle.lts.specs.System.{Rel, Lts, WellFormed, anyState, allActions, into, isSimulation, Relation, Simulation}
 use Rattle.lts.specs.Refinement.{Relations, Run, block, representative, isRepresentative, initial, pending, stepOf, chosen, step, run, coarsest, pairCount}
 use Rattle.lts.proofs.Bounded.{and-iff, imp-iff, dec, test-ext, any-iff, all-iff, restrict-iff}
-use Rattle.lts.proofs.Count.{sum-lt, sum-most, sum-least, count-le, count-lt, count-most, count-least, passing-at, passing-some, lowest-passes, lowest-least}
+use Rattle.lts.proofs.Count.{sum-le, sum-lt, sum-most, sum-least, count-le, count-lt, count-most, count-least, passing-at, passing-some, lowest-passes, lowest-least}
 use Rattle.lts.proofs.System.{into-to, into-from, Preorder}
 use Rattle.lts.proofs.Step.{On, Inv, block-iff, step-inv, viewed-shrinks, viewed-at}
+
+-- ---- how many pairs a relation has
+
+pub pair-count-most : (L : Lts) (R : Rel) → pairCount L R ≤ L .states * L .states
+unfolding pairCount
+pair-count-most L R = sum-most (L .states) (L .states) (λ p. countBelow (L .states) (R p)) (λ p _. count-most (L .states) (R p))
+
+-- a larger relation has as many pairs or more, and more where it has one that the other lacks
+pub pair-count-le : (L : Lts) (R S : Rel) → ((p q : ℕ) → T (R p q) → T (S p q)) → pairCount L R ≤ pairCount L S
+unfolding pairCount
+pair-count-le L R S h =
+    sum-le (L .states) (λ p. countBelow (L .states) (R p)) (λ p. countBelow (L .states) (S p)) (λ p _. count-le (L .states) (R p) (S p) (λ q _. h p q))
+
+pub pair-count-lt : (L : Lts) (R S : Rel) → ((p q : ℕ) → T (R p q) → T (S p q))
+    → (p q : ℕ) → p < L .states → q < L .states → (T (R p q) → ⊥) → T (S p q) → pairCount L R < pairCount L S
+unfolding pairCount
+pair-count-lt L R S h p q l m f t =
+    sum-lt (L .states) (λ p. countBelow (L .states) (R p)) (λ p. countBelow (L .states) (S p)) (λ p _. count-le (L .states) (R p) (S p) (λ q _. h p q)) p l
+    (count-lt (L .states) (R p) (S p) (λ q _. h p q) q m f t)
+
+-- a relation without the diagonal has at most n * (n - 1)
+pub pair-count-off : (L : Lts) (R : Rel) → ((p : ℕ) → p < L .states → T (R p p) → ⊥) → pairCount L R ≤ L .states * (L .states - 1)
+unfolding pairCount
+pair-count-off L R f =
+    sum-most (L .states) (L .states - 1) (λ p. countBelow (L .states) (R p))
+    (λ p l.
+    let c = count-lt (L .states) (R p) (λ _. true) (λ _ _ _. tt) p l (f p l) tt in
+    let d = count-most (L .states) (λ _. true) in
+    omega (arith, c, d))
 
 -- ---- the beginning
 
@@ -201,10 +230,10 @@ module _ (L : Lts) (wf : WellFormed L) (preorder : Rel) (s : Relations) (inv : I
   chosen-pending e t = passing-at (L .states) (pending L s) (e % length (passing (L .states) (pending L s))) (mod-lt e (passing-some (L .states) (pending L s) t))
 
   step-less : (e : ℕ) → T (anyState L (pending L s)) → pairCount L (step L e s .viewed) < pairCount L (s .viewed)
-  unfolding step pending anyState pairCount
-  step-less e t = sum-lt (L .states) (λ g. countBelow (L .states) (V′ g)) (λ g. countBelow (L .states) (s .viewed g))
-      (λ g _. count-le (L .states) (V′ g) (s .viewed g) (λ h _. viewed-shrinks L wf preorder s inv p g h)) p (c .0)
-      (count-lt (L .states) (V′ p) (s .viewed p) (λ h _. viewed-shrinks L wf preorder s inv p p h) (q .0) (q .1) (λ v. d .1 (viewed-at L wf preorder s inv p (q .0) (c .0) v)) (d .0))
+  unfolding step pending anyState
+  step-less e t =
+      pair-count-lt L V′ (s .viewed) (λ g h. viewed-shrinks L wf preorder s inv p g h) p (q .0) (c .0) (q .1)
+      (λ v. d .1 (viewed-at L wf preorder s inv p (q .0) (c .0) v)) (d .0)
     where
       p : ℕ
       p = chosen L e s
@@ -286,10 +315,6 @@ run-fuel L wf preorder es (suc fuel) (suc more) k s i l m =
     go (inl t) ih = run-more L es more k s t ∙ ih (step-less L wf preorder s i (getD es k 0) t) ∙ sym (run-more L es fuel k s t)
 
 -- ---- the call `coarsest`
-
-pub pair-count-most : (L : Lts) (R : Rel) → pairCount L R ≤ L .states * L .states
-unfolding pairCount
-pair-count-most L R = sum-most (L .states) (L .states) (λ p. countBelow (L .states) (R p)) (λ p _. count-most (L .states) (R p))
 
 module _ (L : Lts) (wf : WellFormed L) (preorder : Rel) (pre : Preorder L preorder) (es : List ℕ) where
   ends : Ends L preorder (L .states * L .states) 0 (initial L preorder) (coarsest L preorder es)

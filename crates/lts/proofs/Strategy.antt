@@ -21,17 +21,17 @@ use Rattle.lts.proofs.Rounds.{first-iff, next-iff, refuted-by, refuted-
 
 -- ---- what a list holds
 
-holds-cons : (e : Entry) (es : List Entry) (p q : ℕ) → T (holds (e ∷ es) p q) → ((e .p ≡ p) × (e .q ≡ q)) ⊎ T (holds es p q)
+pub holds-cons : (e : Entry) (es : List Entry) (p q : ℕ) → T (holds (e ∷ es) p q) → ((e .p ≡ p) × (e .q ≡ q)) ⊎ T (holds es p q)
 unfolding holds
 holds-cons e es p q t =
     or-elim (eqb (e .p) p && eqb (e .q) q) (holds es p q)
     (λ c. let d = and-iff (eqb (e .p) p) (eqb (e .q) q) .0 c in inl (eqb→eq (e .p) p (d .0), eqb→eq (e .q) q (d .1))) (λ c. inr c) t
 
-holds-here : (e : Entry) (es : List Entry) → T (holds (e ∷ es) (e .p) (e .q))
+pub holds-here : (e : Entry) (es : List Entry) → T (holds (e ∷ es) (e .p) (e .q))
 unfolding holds
 holds-here e es = or-left (eqb (e .p) (e .p) && eqb (e .q) (e .q)) (holds es (e .p) (e .q)) (and-iff (eqb (e .p) (e .p)) (eqb (e .q) (e .q)) .1 (eqb-refl (e .p), eqb-refl (e .q)))
 
-holds-later : (e : Entry) (es : List Entry) (p q : ℕ) → T (holds es p q) → T (holds (e ∷ es) p q)
+pub holds-later : (e : Entry) (es : List Entry) (p q : ℕ) → T (holds es p q) → T (holds (e ∷ es) p q)
 unfolding holds
 holds-later e es p q t = or-right (eqb (e .p) p && eqb (e .q) q) (holds es p q) t
 
@@ -95,7 +95,7 @@ length-if false e = refl
 -- ---- what a sound entry says
 
 module _ (L : Lts) (wf : WellFormed L) (preorder : Rel) where
-  abbrev Sound : List Entry → Entry → Type 0
+  abbrev pub Sound : List Entry → Entry → Type 0
   Sound earlier e = ((e .a ≡ 0) × (e .t ≡ 0) × (T (preorder (e .p) (e .q)) → ⊥))
       ⊎ (T (L .transition (e .p) (e .a) (e .t)) × ((r : ℕ) → T (L .transition (e .q) (e .a) r) → T (holds earlier (e .t) r)))
 
@@ -105,7 +105,7 @@ module _ (L : Lts) (wf : WellFormed L) (preorder : Rel) where
   outside : Entry → Bool
   outside e = eqb (e .a) 0 && eqb (e .t) 0 && not (preorder (e .p) (e .q))
 
-  sound-to : (earlier : List Entry) (e : Entry) → T (sound L preorder earlier e) → Sound earlier e
+  pub sound-to : (earlier : List Entry) (e : Entry) → T (sound L preorder earlier e) → Sound earlier e
   unfolding sound ready outside
   sound-to earlier e t =
       or-elim (outside e) (L .transition (e .p) (e .a) (e .t) && ready earlier e)
@@ -229,7 +229,7 @@ module _ (L : Lts) (wf : WellFormed L) (preorder : Rel) where
       go false t h = absurd t
 
   -- at a pair that falls at round j + 1 some transition is unanswered
-  unanswered-at : (j p q : ℕ) → T (refutedAt L preorder (suc j) p q)
+  pub unanswered-at : (j p q : ℕ) → T (refutedAt L preorder (suc j) p q)
       → T (unanswered L (W j) p q (entryAt L preorder (suc j) p q .a) (entryAt L preorder (suc j) p q .t))
   unfolding refutedAt entryAt anyState unanswered
   unanswered-at j p q f = go (dec (anyBelow (L .actions) some))
@@ -323,7 +323,7 @@ module _ (L : Lts) (wf : WellFormed L) (preorder : Rel) where
   unfolding strategyAt
   strategy-at-accepted j p q lp lq f = accepted-snoc (entriesBefore L preorder j) (entryAt L preorder j p q) (strategy-all-sound j p q lp lq f)
 
-  entry-pair-is : (j p q : ℕ) → (entryAt L preorder j p q .p ≡ p) × (entryAt L preorder j p q .q ≡ q)
+  pub entry-pair-is : (j p q : ℕ) → (entryAt L preorder j p q .p ≡ p) × (entryAt L preorder j p q .q ≡ q)
   unfolding entryAt
   entry-pair-is zero p q = (refl, refl)
   entry-pair-is (suc j) p q = (refl, refl)
@@ -352,7 +352,7 @@ module _ (L : Lts) (wf : WellFormed L) (preorder : Rel) where
       length-append (entriesBefore L preorder j) (entryAt L preorder j p q ∷ []) ∙ add-one (length (entriesBefore L preorder j))
       ∙ ap suc (length-concat j (entriesIn L preorder) ∙ sum-cong j _ _ entries-in-count)
 
-  all-sound-last : (earlier : List Entry) (e : Entry) (es : List Entry) → T (allSound L preorder earlier (e ∷ es)) → (lastOf (e ∷ es) .p < L .states) × (lastOf (e ∷ es) .q < L .states)
+  pub all-sound-last : (earlier : List Entry) (e : Entry) (es : List Entry) → T (allSound L preorder earlier (e ∷ es)) → (lastOf (e ∷ es) .p < L .states) × (lastOf (e ∷ es) .q < L .states)
   unfolding allSound lastOf sound outside ready
   all-sound-last earlier e [] t =
       let s = and-iff (sound L preorder earlier e) true .0 t .0 in

@@ -3,6 +3,7 @@ pub mod System
 pub mod Refinement
 pub mod Rounds
 pub mod Strategy
+pub mod Depth
 pub mod Game
 pub mod Union
 pub mod Refusal

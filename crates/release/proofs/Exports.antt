@@ -14,7 +14,7 @@ use Rattle.strategy.specs.Check.{checkCall, CheckPromise}
 use Rattle.strategy.specs.Write.{writeCall, WritePromise}
 use Rattle.strategy_bytes.specs.Bytes.{entryBytes, entriesOfBytes}
 use Rattle.coarsest_bytes.specs.Call.{coarsestOnBytes, CoarsestBytesPromise}
-use Rattle.release.specs.Packed.{packed, unpacked, coarsestPlaces, comparePlaces, pairPlaces, onePlace, noPlace}
+use Rattle.release.specs.Packed.{packed, unpacked, coarsestPlaces, comparePlaces, checkPlaces, onePlace, noPlace}
 use Rattle.release.specs.EndStart.{endStartOnBytes, EndStartBytesPromise}
 use Rattle.release.proofs.Replies.{Kept, carried, exact, left, exported}
 use Rattle.release.proofs.EndStarts.{end-start-promised}
@@ -80,10 +80,10 @@ coarsest-exported {s} {start} {schedule} {grid₀} {representatives₀} {grid} {
     (λ (y : Reply). CoarsestBytesPromise s start schedule grid₀ representatives₀ y grid representatives)
 
 pub check-exported : {s start words : List ℕ} {entries : List Entry} {reply : Reply} {x : ℕ} → words ≡ start → checkCall s words entries ≡ reply
-    → CheckPromise s words entries reply → x ≡ packed pairPlaces reply → Kept pairPlaces reply
-    → (checkCall s start entries ≡ unpacked pairPlaces x)
-    × ((x ≡ packed pairPlaces (unpacked pairPlaces x)) × CheckPromise s start entries (unpacked pairPlaces x))
-check-exported {s} {start} {words} {entries} w e h k l = rw (← w) (exported pairPlaces (CheckPromise s words entries) e h k l)
+    → CheckPromise s words entries reply → x ≡ packed checkPlaces reply → Kept checkPlaces reply
+    → (checkCall s start entries ≡ unpacked checkPlaces x)
+    × ((x ≡ packed checkPlaces (unpacked checkPlaces x)) × CheckPromise s start entries (unpacked checkPlaces x))
+check-exported {s} {start} {words} {entries} w e h k l = rw (← w) (exported checkPlaces (CheckPromise s words entries) e h k l)
 
 pub write-exported : {s start words plan₀ plan : List ℕ} {p q : ℕ} {reply : Reply} {x : ℕ} → words ≡ start
     → writeCall entryBytes 8 s words p q plan₀ ≡ record { reply = reply; plan = plan }

@@ -4,11 +4,12 @@ use mathlib.Core.Bool.{xor}
 use mathlib.Core.List.{List, [], _∷_}
 use mathlib.Core.Path.{_≡_, refl}
 use Rattle.lts.specs.declared.Refusal.the-variants.{Length, Range, ReachedTwice}
-use Rattle.lts.specs.Bounded.{anyBelow, allBelow, sumBelow, countBelow, passing, concatBelow, listBelow, lowest, restrict}
+use Rattle.lts.specs.Bounded.{anyBelow, allBelow, sumBelow, largestBelow, countBelow, passing, concatBelow, listBelow, lowest, restrict}
 use Rattle.lts.specs.System.{allStates, anyState, allActions, anyAction, into, terminationPreorder, answered}
 use Rattle.lts.specs.Refinement.{run, step, stepOf, eachAction, chosen, pending, isRepresentative, representative, representatives, block, coarsest, initial, pairCount, blockCount, refine, split, prune, remove}
 use Rattle.lts.specs.Rounds.{round, refutedAt, refutationRound}
 use Rattle.lts.specs.Strategy.{holds, sound, allSound, accepted, lastOf, entriesOf, entryNumbers, unanswered, entryAt, entriesIn, entriesBefore, strategyAt, strategy, refutedCount, strategyLength}
+use Rattle.lts.specs.Depth.{depthsAt, least, leastDepth, depthOver, measure, measured, firstDepth, depthOf}
 use Rattle.lts.specs.Game.{defenderLoses, challengerWins}
 use Rattle.lts.specs.Rule.{broken, checked, given, refused}
 use Rattle.encoding.specs.Records.{numberAt, headerOf, labelsLength, stateRecordAt, transitionRecordAt, stateRecord, transitionRecord}
@@ -63,9 +64,9 @@ flows :
     × (terminationCall F4 four ≡ record { reply = given []; grid = 15 ∷ 15 ∷ 15 ∷ 15 ∷ [] })
     × (coarsestCall F4 (15 ∷ 15 ∷ 15 ∷ 15 ∷ []) [] four four
     ≡ record { reply = given (3 ∷ 10 ∷ 4 ∷ []); grid = 1 ∷ 3 ∷ 7 ∷ 15 ∷ []; representatives = 0 ∷ 1 ∷ 2 ∷ 3 ∷ [] })
-    -- F5: written, and accepted
+    -- F5: written, and accepted, with depth 2
     × (writeCall entryNumbers 4 F3 all 2 0 twelve ≡ record { reply = given (3 ∷ []); plan = F5 })
-    × (checkCall F3 all (entriesOf F5) ≡ given (2 ∷ 0 ∷ []))
+    × (checkCall F3 all (entriesOf F5) ≡ given (2 ∷ 0 ∷ 2 ∷ []))
     -- F6: 1 round not won, 2 won
     × (playCall F3 all 2 0 1 ≡ given (0 ∷ []))
     × (playCall F3 all 2 0 2 ≡ given (1 ∷ []))
@@ -73,5 +74,5 @@ flows :
     × (coarsestCall F7 all [] three three ≡ record { reply = refused Range; grid = three; representatives = three })
     × (coarsestCall F8 all [] three three ≡ record { reply = refused Length; grid = three; representatives = three })
     × (coarsestCall F9 all [] three three ≡ record { reply = refused (ReachedTwice 1); grid = three; representatives = three })
-unfolding numberAt headerOf labelsLength labelsFit stateRecordAt transitionRecordAt stateRecord transitionRecord inRange stateFits transitionFits anyBelow allBelow sumBelow countBelow passing concatBelow listBelow lowest restrict statesFit transitionsFit walk chain reached member onSomeChain allReached indices occurrences namedTwice noneTwice distinct successor successorsFit headedRules sheetRules broken checked any ltsOf isMatrix reflexiveBelow transitiveBelow transitiveAt transitivePair startRules inputRules pairRules bit wordOf wordAt inMatrix matrixOf allStates anyState allActions anyAction into terminationPreorder answered run step stepOf eachAction chosen pending isRepresentative representative representatives block coarsest initial pairCount blockCount refine split prune remove xor round refutedAt refutationRound holds sound allSound accepted lastOf entriesOf entryNumbers unanswered entryAt entriesIn entriesBefore strategyAt strategy refutedCount strategyLength defenderLoses challengerWins terminationRules terminationCall coarsestRules refined coarsestCall checkRules checkCall writeRules writeCall playRules playCall
+unfolding numberAt headerOf labelsLength labelsFit stateRecordAt transitionRecordAt stateRecord transitionRecord inRange stateFits transitionFits anyBelow allBelow sumBelow countBelow passing concatBelow listBelow lowest restrict statesFit transitionsFit walk chain reached member onSomeChain allReached indices occurrences namedTwice noneTwice distinct successor successorsFit headedRules sheetRules broken checked any ltsOf isMatrix reflexiveBelow transitiveBelow transitiveAt transitivePair startRules inputRules pairRules bit wordOf wordAt inMatrix matrixOf allStates anyState allActions anyAction into terminationPreorder answered run step stepOf eachAction chosen pending isRepresentative representative representatives block coarsest initial pairCount blockCount refine split prune remove xor round refutedAt refutationRound holds sound allSound accepted lastOf entriesOf entryNumbers largestBelow depthsAt least leastDepth depthOver measure measured firstDepth depthOf unanswered entryAt entriesIn entriesBefore strategyAt strategy refutedCount strategyLength defenderLoses challengerWins terminationRules terminationCall coarsestRules refined coarsestCall checkRules checkCall writeRules writeCall playRules playCall
 flows = (refl, refl, refl, refl, refl, refl, refl, refl, refl, refl, refl, refl, refl, refl, refl)

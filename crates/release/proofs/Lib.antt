@@ -3,6 +3,7 @@ pub mod Replies
 pub mod Compared
 pub mod Joined
 pub mod Plans
+pub mod Depths
 pub mod EndStarts
 pub mod Exports
 pub mod Flows

@@ -1,8 +1,8 @@
 -- The values of check plan and write plan fit their places.
-use Prim.Native.Nat.{ℕ, _*_, _/_, _≤_, _<_}
+use Prim.Native.Nat.{ℕ, _*_, _-_, _/_, _≤_, _<_}
 use native.Mathlib.Nat.{mul-le-mul}
 use native.Mathlib.Omega.{arith}
-use mathlib.Core.Path.{_≡_, refl, sym, ap, subst, _∙_}
+use mathlib.Core.Path.{_≡_, refl, sym, ap, _∙_}
 use mathlib.Core.Logic.{⊎-elim}
 use mathlib.Core.List.{List, [], _∷_, _++_}
 use borrow.Author.Tests.{leb-true}
@@ -11,7 +11,7 @@ use lib.ListN.{length}
 use Rattle.lts.specs.declared.Entry.{Entry}
 use Rattle.lts.specs.declared.Refusal.the-variants.{StillRelated, Buffer}
 use Rattle.lts.specs.Rounds.{refutationRound}
-use Rattle.lts.specs.Strategy.{accepted, lastOf}
+use Rattle.lts.specs.Strategy.{lastOf}
 use Rattle.lts.specs.Rule.{_otherwise_, Nothing, broken, Reply, given}
 use Rattle.lts.proofs.Rule.{kept, both-kept, finding, numbered}
 use Rattle.encoding.specs.Records.{headerOf}
@@ -26,17 +26,21 @@ use Rattle.strategy_rounds.proofs.Lengths.{length-most}
 few : (s start : List ℕ) → broken (inputRules s start) ≡ Nothing → headerOf s .states ≤ 256
 few s start k = kept-ready s start refl k .readable .recorded .sized .bounds .states
 
-module _ {s start : List ℕ} {entries : List Entry} {reply : Reply} {p q : ℕ} (h : CheckPromise s start entries reply) (is : reply ≡ given (p ∷ q ∷ [])) where
-  pub pair-few : (p < 256) × (q < 256)
+module _ {s start : List ℕ} {entries : List Entry} {reply : Reply} {p q depth : ℕ} (h : CheckPromise s start entries reply)
+    (is : reply ≡ given (p ∷ q ∷ depth ∷ [])) where
+  pub check-few : (p < 256) × (q < 256) × (depth < 65536)
   unfolding checkRules
-  pair-few = ⊎-elim
+  check-few = ⊎-elim
       (λ k.
       let a = h .answers k in
-      let e : _≡_ {A = List ℕ} (p ∷ q ∷ []) (lastOf entries .p ∷ lastOf entries .q ∷ []) = ap (λ (x : Reply). x .values) (sym is ∙ a .replied) in
+      let e : _≡_ {A = List ℕ} (p ∷ q ∷ depth ∷ []) (lastOf entries .p ∷ lastOf entries .q ∷ a .depth ∷ []) = ap (λ (x : Reply). x .values) (sym is ∙ a .replied) in
       let x : p ≡ lastOf entries .p = cc in
       let y : q ≡ lastOf entries .q = cc in
+      let z : depth ≡ a .depth = cc in
       let f = few s start (both-kept (inputRules s start) _ k .0) in
-      (omega (arith, x, f, a .first), omega (arith, y, f, a .second)))
+      let less : headerOf s .states - 1 ≤ 255 = omega (arith, f) in
+      let m : headerOf s .states * (headerOf s .states - 1) ≤ 256 * 255 = mul-le-mul f less in
+      (omega (arith, x, f, a .first), omega (arith, y, f, a .second), omega (arith, z, m, a .most)))
       (λ r. absurd (numbered (r .0) (ap (λ (x : Reply). x .refusal) (sym is ∙ h .refuses (r .0) (r .1)))))
       (finding (checkRules s start entries))
 

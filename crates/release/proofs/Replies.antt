@@ -18,7 +18,7 @@ use Rattle.coarsest.specs.declared.Counts.{Counts}
 use Rattle.coarsest.specs.declared.Answer.the-variants.{Done}
 use Rattle.coarsest.specs.Call.{coarsestReply}
 use Rattle.coarsest_bytes.specs.Carried.{Small}
-use Rattle.release.specs.Packed.{placed, packed, unpacked, coarsestPlaces, comparePlaces, pairPlaces, onePlace, noPlace}
+use Rattle.release.specs.Packed.{placed, packed, unpacked, coarsestPlaces, comparePlaces, checkPlaces, onePlace, noPlace}
 use Rattle.release.proofs.Packing.{last, more, unpack-refused, unpack-none, unpack-given}
 
 -- a reply that is unpacked from the number that it is packed into
@@ -79,8 +79,8 @@ played-kept (Unplayed r) = unpack-refused onePlace r
 pub compared-kept : (value steps : ℕ) → value < 256 → Kept comparePlaces (given (value ∷ steps ∷ []))
 compared-kept value steps l = unpack-given (more 8 8 value [] (steps ∷ []) l (last 16 steps))
 
-pub pair-kept : (p q : ℕ) → p < 65536 → Kept pairPlaces (given (p ∷ q ∷ []))
-pair-kept p q l = unpack-given (more 8 16 p [] (q ∷ []) l (last 24 q))
+pub check-kept : (p q depth : ℕ) → p < 65536 → q < 65536 → Kept checkPlaces (given (p ∷ q ∷ depth ∷ []))
+check-kept p q depth l m = unpack-given (more 8 16 p (40 ∷ []) (q ∷ depth ∷ []) l (more 24 16 q [] (depth ∷ []) m (last 40 depth)))
 
 pub count-kept : (count : ℕ) → Kept onePlace (given (count ∷ []))
 count-kept count = unpack-given (last 8 count)
@@ -104,9 +104,9 @@ compared-packed value steps = omega arith
 pub no-packed : (steps : ℕ) → 65536 * steps ≡ packed comparePlaces (given (0 ∷ steps ∷ []))
 no-packed steps = omega (arith, compared-packed 0 steps)
 
-pub pair-packed : (p q : ℕ) → 256 * p + 16777216 * q ≡ packed pairPlaces (given (p ∷ q ∷ []))
+pub check-packed : (p q depth : ℕ) → 256 * p + 16777216 * q + 1099511627776 * depth ≡ packed checkPlaces (given (p ∷ q ∷ depth ∷ []))
 unfolding packed placed
-pair-packed p q = omega arith
+check-packed p q depth = omega arith
 
 pub one-packed : (v : ℕ) → 256 * v ≡ packed onePlace (given (v ∷ []))
 unfolding packed placed

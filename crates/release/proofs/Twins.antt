@@ -12,7 +12,8 @@ use Rattle.lts.specs.declared.Entry.{Entry}
 use Rattle.lts.specs.declared.Refusal.the-variants.{NotDecimal, Grid, StillRelated, Unsound, Buffer}
 use Rattle.lts.specs.System.{Lts, terminationPreorder}
 use Rattle.lts.specs.Rounds.{refutationRound}
-use Rattle.lts.specs.Strategy.{accepted, strategyLength, strategy}
+use Rattle.lts.specs.Strategy.{accepted, strategyLength, strategy, lastOf}
+use Rattle.lts.specs.Depth.{depthOf}
 use Rattle.lts.specs.Game.{challengerWins}
 use Rattle.lts.specs.Union.{comparison, simulated}
 use Rattle.lts.specs.Labels.{joinedSecond}
@@ -168,7 +169,8 @@ module _ {s t : List ℕ} (w : Twins s t) where
   check-same start entries =
       checked-same (checkRules s start entries) (checkRules t start entries) refused
       (append-same (inputRules s start) (inputRules t start) _ _ (inputs-same w start)
-      (both (λ n L. broken (accepted L (relationOf n start) entries otherwise Unsound ∷ [])))) refl
+      (both (λ n L. broken (accepted L (relationOf n start) entries otherwise Unsound ∷ []))))
+      (both {A = Reply} (λ n L. given (lastOf entries .p ∷ lastOf entries .q ∷ depthOf L entries ∷ [])))
 
   pub write-same : {A : Type 0} (carried : List Entry → List A) (width : ℕ) (start : List ℕ) (p q : ℕ) (plan : List A)
       → writeCall carried width s start p q plan ≡ writeCall carried width t start p q plan

@@ -25,15 +25,15 @@ unfoldable pub unpacked : List ℕ → ℕ → Reply
 unpacked places x = cond (eqb (x % 256) 0) (given (fields places x)) (record { refusal = x % 256; recordNumber = x / 256; values = [] })
 
 -- where the values of each call stand. Coarsest: turns, kept pairs, blocks; compare: yes, turns; test simulation and hand play: yes, or won;
--- check plan: the pair; write plan: the entries; join: the length; normalise, to named, to plain and end start have none.
+-- check plan: the pair and its depth; write plan: the entries; join: the length; normalise, to named, to plain and end start have none.
 abbrev pub coarsestPlaces : List ℕ
 coarsestPlaces = 8 ∷ 24 ∷ 48 ∷ []
 
 abbrev pub comparePlaces : List ℕ
 comparePlaces = 8 ∷ 16 ∷ []
 
-abbrev pub pairPlaces : List ℕ
-pairPlaces = 8 ∷ 24 ∷ []
+abbrev pub checkPlaces : List ℕ
+checkPlaces = 8 ∷ 24 ∷ 40 ∷ []
 
 abbrev pub onePlace : List ℕ
 onePlace = 8 ∷ []

@@ -18,7 +18,7 @@ ghost use Rattle.disjoint_union.specs.Join.{joinReply, joinCall, JoinPromise};
 ghost use Rattle.strategy.specs.Check.{checkReply, checkCall, CheckPromise};
 ghost use Rattle.strategy.specs.Write.{writeReply, writeCall, WritePromise};
 ghost use Rattle.strategy_bytes.specs.Bytes.{entryBytes, entriesOfBytes};
-ghost use Rattle.release.specs.Packed.{packed, unpacked, coarsestPlaces, comparePlaces, pairPlaces, onePlace, noPlace};
+ghost use Rattle.release.specs.Packed.{packed, unpacked, coarsestPlaces, comparePlaces, checkPlaces, onePlace, noPlace};
 ghost use Rattle.release.specs.EndStart.{endStartOnBytes, EndStartBytesPromise};
 
 // A refusal and its record, as one number: `packed` of it at any places.
@@ -202,19 +202,21 @@ pub extern "C" fn flow_end_start(s: &[u8], grid: &mut [u8]) -> u64
     pack_checked(end_start_in(s, grid, &mut words[..n]))
 }
 
-// Check plan. Bytes past the last whole entry of eight are ignored.
+// Check plan, with the depth of the last entry. Bytes past the last whole entry of eight are ignored.
 #[no_mangle]
 pub extern "C" fn flow_check_plan(s: &[u8], start: &[u8], plan: &[u8]) -> u64
-    ensures { λ r. ⌜ checkCall (now (s .entry)) (wordsOf (now (start .entry))) (entriesOfBytes (now (plan .entry))) ≡ unpacked pairPlaces r ⌝ }
-    ensures { λ r. ⌜ r ≡ packed pairPlaces (unpacked pairPlaces r) ⌝ }
-    ensures { λ r. ⌜ CheckPromise (now (s .entry)) (wordsOf (now (start .entry))) (entriesOfBytes (now (plan .entry))) (unpacked pairPlaces r) ⌝ }
+    ensures { λ r. ⌜ checkCall (now (s .entry)) (wordsOf (now (start .entry))) (entriesOfBytes (now (plan .entry))) ≡ unpacked checkPlaces r ⌝ }
+    ensures { λ r. ⌜ r ≡ packed checkPlaces (unpacked checkPlaces r) ⌝ }
+    ensures { λ r. ⌜ CheckPromise (now (s .entry)) (wordsOf (now (start .entry))) (entriesOfBytes (now (plan .entry))) (unpacked checkPlaces r) ⌝ }
 {
     let mut words = [0u64; 1024];
     let n = carry::load_grid(start, &mut words);
     let answer = strategy_bytes::check_bytes(s, &words[..n], plan);
     match answer {
         strategy::Verdict::Refused(r) => pack_refused(r),
-        strategy::Verdict::Last(p, q) => 256 * (p as u64) + 16777216 * (q as u64),
+        strategy::Verdict::Last(p, q, depth) => {
+            256 * (p as u64) + 16777216 * (q as u64) + 1099511627776 * (depth as u64)
+        }
     }
 }
 

@@ -9,6 +9,7 @@ use Rattle.lts.specs.Bounded.{listBelow}
 use Rattle.lts.specs.System.{Rel, Lts}
 use Rattle.lts.specs.declared.Entry.{Entry}
 use Rattle.lts.specs.Strategy.{accepted, entriesOf, lastOf}
+use Rattle.lts.specs.Depth.{depthOf}
 use Rattle.lts.specs.declared.Refusal.{Refusal}
 use Rattle.lts.specs.declared.Refusal.the-variants.{Unsound}
 use Rattle.lts.specs.Rule.{_otherwise_, Nothing, First, broken}
@@ -65,6 +66,7 @@ module _ (s start : List ℕ) (entries : List Entry) where
     unfolding checkCall checkReply
     unsound t = refuses _ _ _ (stop _ _ _ left test t)
 
-    pub accepts : {x y : ℕ} → not b ≡ false → x ≡ lastOf entries .p → y ≡ lastOf entries .q → checkCall s start entries ≡ checkReply (Last x y)
+    pub accepts : {x y z : ℕ} → not b ≡ false → x ≡ lastOf entries .p → y ≡ lastOf entries .q → z ≡ depthOf (ltsOf s) entries
+        → checkCall s start entries ≡ checkReply (Last x y z)
     unfolding checkCall checkReply
-    accepts t x y = rw (x, y) (passes _ _ _ (done (pass _ _ _ left test t)))
+    accepts t x y z = rw (x, y, z) (passes _ _ _ (done (pass _ _ _ left test t)))

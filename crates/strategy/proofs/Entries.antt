@@ -5,11 +5,10 @@ use mathlib.Core.List.{List}
 use native.Mathlib.Omega.{arith}
 use lib.ListN.{length, getD}
 use Rattle.lts.specs.declared.Entry.{Entry}
-use Rattle.lts.specs.Strategy.{entriesOf}
+use Rattle.lts.specs.Strategy.{entriesOf, blank}
 use Rattle.lts.proofs.Below.{length-listBelow, getD-listBelow}
 use Rattle.strategy_check.specs.Entries.{entryOf}
 use Rattle.strategy_check.proofs.Entries.{entries-below}
-use Rattle.strategy.specs.Within.{blank}
 
 -- four numbers carry an entry
 pub length-entries : (xs : List ℕ) → length (entriesOf xs) ≡ length xs / 4

@@ -1,9 +1,9 @@
 -- What is promised of the two plan calls follows from what they come to.
-use Prim.Native.Nat.{ℕ, suc, _*_, _/_, _≤_, _<_, suc-le-suc}
+use Prim.Native.Nat.{ℕ, suc, _+_, _*_, _-_, _/_, _≤_, _<_, suc-le-suc}
 use native.Mathlib.Nat.{le-trans, mul-le-mul-left, mul-div-le}
 use native.Mathlib.Omega.{arith}
-use mathlib.Core.Path.{_≡_, refl, sym, _∙_, ap, subst}
-use mathlib.Core.Logic.{_↔_}
+use mathlib.Core.Path.{_≡_, refl, sym, _∙_, ap, subst, subst₂}
+use mathlib.Core.Logic.{_↔_, ⊎-elim}
 use mathlib.Core.Bool.{Bool, true, false, not, _&&_, _||_}
 use mathlib.Core.List.{List, [], _∷_, _++_}
 use lib.Dec.{T, eqb, ltb, leb, eqb→eq, ltb→lt, leb→le, le→leb}
@@ -11,10 +11,11 @@ use lib.ListN.{length, take, drop, length-append, length-drop}
 use lib.Seq.{drop-at}
 use borrow.Author.Tests.{not-true, leb-true, leb-false, lt-leb}
 use Rattle.lts.specs.Bounded.{_⇒_}
-use Rattle.lts.specs.System.{Rel, Lts, WellFormed, allStates}
+use Rattle.lts.specs.System.{Rel, Lts, WellFormed, allStates, reflexive}
 use Rattle.lts.specs.Rounds.{round, refutedAt, refutationRound}
 use Rattle.lts.specs.declared.Entry.{Entry}
 use Rattle.lts.specs.Strategy.{holds, sound, allSound, accepted, lastOf, entriesOf, entryNumbers}
+use Rattle.lts.specs.Depth.{depthOf, Depths}
 use Rattle.lts.specs.Demand.{Strategies}
 use Rattle.lts.specs.declared.Refusal.{Refusal}
 use Rattle.lts.specs.declared.Refusal.the-variants.{StillRelated, Unsound, Buffer}
@@ -25,9 +26,10 @@ use Rattle.lts.proofs.Count.{lowest-least}
 use Rattle.lts.proofs.System.{preorder-iff}
 use Rattle.lts.proofs.Step.{On}
 use Rattle.lts.proofs.Run.{Coarsest, coarsest-is}
-use Rattle.lts.proofs.Rounds.{next-iff, round-states, stable-round, refuted-by, dropped-iff}
+use Rattle.lts.proofs.Rounds.{next-iff, round-states, stable-round, refuted-by, refuted-once, dropped-refuted, dropped-iff}
+use Rattle.lts.proofs.Depth.{depths, last-depth-only}
 use Rattle.lts.proofs.Demand.{strategies}
-use Rattle.lts.proofs.Rule.{second-part, kept, both-kept, when-broken, when-kept, AboutNone, refusal-iff, exactly}
+use Rattle.lts.proofs.Rule.{second-part, kept, both-kept, when-broken, when-kept, AboutNone, refusal-iff, exactly, finding, numbered}
 use Rattle.encoding.specs.Records.{headerOf}
 use Rattle.encoding.specs.Denotation.{ltsOf}
 use Rattle.encoding.specs.Read.{Denoted}
@@ -39,7 +41,7 @@ use Rattle.inputs.specs.Inputs.{inputRules, pairRules, Ready}
 use Rattle.inputs.proofs.Laws.{kept-ready, pair-inputs, pair-states}
 use Rattle.strategy_write.proofs.Writes.{length-numbers}
 use Rattle.strategy.specs.Check.{checkReply, startOf, keptPairs, checkRules, checkCall, Accepts, CheckPromise}
-use Rattle.strategy.specs.Write.{WriteOutcome, planOf, planLength, writeRules, writeCall, Writes, WritePromise}
+use Rattle.strategy.specs.Write.{WriteOutcome, roundOf, planOf, planLength, writeRules, writeCall, Writes, WritePromise}
 use Rattle.strategy.proofs.Checks.{accepts}
 
 -- ## A pair outside the coarsest simulation falls by round n * n, and no other falls
@@ -123,12 +125,22 @@ module _ (s start : List ℕ) (read : broken (inputRules s start) ≡ Nothing) w
   pub known : Denoted s (headerOf s)
   known = denoted s (headerOf s) (reads s (headerOf s) (ready .readable))
 
+  loop : T (reflexive L W)
+  loop = checked-reflexive _ start (ready .checked) L (known .states)
+
   is : (schedule : List ℕ) → Coarsest L W (keptPairs s start schedule)
   is schedule = coarsest-is L (known .formed) W
-      (preorder-iff L W .0 (checked-reflexive _ start (ready .checked) L (known .states), checked-transitive _ start (ready .checked) L (known .states))) schedule
+      (preorder-iff L W .0 (loop, checked-transitive _ start (ready .checked) L (known .states))) schedule
 
   shows : (schedule : List ℕ) → Strategies L W (keptPairs s start schedule)
   shows schedule = strategies L (known .formed) W (keptPairs s start schedule) (is schedule)
+
+  deep : Depths L W
+  deep = depths L (known .formed) W loop
+
+  -- a dropped pair falls at its round
+  dropped-falls : (p q : ℕ) → T (not (keptPairs s start [] p q)) → T (refutedAt L W (refutationRound L W p q) p q)
+  dropped-falls p q u = dropped-refuted L (known .formed) W (keptPairs s start []) (is []) p q (not-iff (keptPairs s start [] p q) .0 u)
 
   -- the test for 13 passes exactly for the dropped pairs
   wanted : (schedule : List ℕ) (p q : ℕ) → T (leb (refutationRound L W p q) (headerOf s .states * headerOf s .states)) ↔ T (not (keptPairs s start schedule p q))
@@ -143,7 +155,7 @@ module _ (s start : List ℕ) (entries : List Entry) (reply : Reply) (is : check
   unfolding checkCall
   check-broken r e = when-broken (checkRules s start entries) _ _ is e
 
-  check-kept : broken (checkRules s start entries) ≡ Nothing → reply ≡ given (lastOf entries .p ∷ lastOf entries .q ∷ [])
+  check-kept : broken (checkRules s start entries) ≡ Nothing → reply ≡ given (lastOf entries .p ∷ lastOf entries .q ∷ depthOf (ltsOf s) entries ∷ [])
   unfolding checkCall
   check-kept e = when-kept (checkRules s start entries) _ _ is e
 
@@ -154,9 +166,16 @@ module _ (s start : List ℕ) (entries : List Entry) (reply : Reply) (is : check
       let sound = true-T _ (kept _ _ _ (k .1) .0) in
       let states = shows s start (k .0) [] .states entries sound in
       let size = known s start (k .0) .states in
+      let deep = deep s start (k .0) in
+      let last = lastOf entries in
+      let falls = dropped-falls s start (k .0) (last .p) (last .q) (shows s start (k .0) [] .ends entries sound) in
       record {
         sound = sound;
+        depth = depthOf (ltsOf s) entries;
         replied = check-kept e;
+        measured = deep .depth entries sound;
+        falls = (refutationRound (ltsOf s) (startOf s start) (last .p) (last .q), deep .least entries _ sound falls, falls);
+        most = subst (λ (n : ℕ). depthOf (ltsOf s) entries ≤ n * (n - 1) + 1) size (deep .most entries sound);
         first = omega (arith, states, size);
         second = omega (arith, states, size);
         dropped = λ schedule. shows s start (k .0) schedule .ends entries sound;
@@ -178,6 +197,23 @@ module _ (s start : List ℕ) (entries : List Entry) (reply : Reply) (is : check
 pub check-meets : (s start : List ℕ) (entries : List Entry) {reply : Reply} → checkCall s start entries ≡ reply
     → (checkCall s start entries ≡ reply) × CheckPromise s start entries reply
 check-meets s start entries is = (is, check-promised s start entries _ is)
+
+-- no other reply meets the promise
+pub check-only : (s start : List ℕ) (entries : List Entry) (reply : Reply) → CheckPromise s start entries reply → checkCall s start entries ≡ reply
+unfolding checkRules accepted
+check-only s start entries reply h = ⊎-elim
+    (λ k.
+    let a = h .answers k in
+    let b = check-promised s start entries _ refl .answers k in
+    let wf = known s start (both-kept (inputRules s start) _ k .0) .formed in
+    let d = last-depth-only (ltsOf s) wf (startOf s start) entries (b .depth) (a .depth) (some-entry entries (a .sound)) (b .measured) (a .measured) in
+    b .replied ∙ ap (λ (x : ℕ). given (lastOf entries .p ∷ lastOf entries .q ∷ x ∷ [])) d ∙ sym (a .replied))
+    (λ r. check-broken s start entries _ refl (r .0) (r .1) ∙ sym (h .refuses (r .0) (r .1)))
+    (finding (checkRules s start entries))
+  where
+    some-entry : (es : List Entry) → T (accepted (ltsOf s) (startOf s start) es) → 0 < length es
+    some-entry [] t = absurd t
+    some-entry (e ∷ es) t = omega arith
 
 -- ## Write plan
 -- how elements carry entries: as many as `width` each, and those of small numbers come back, whatever follows them
@@ -256,6 +292,24 @@ module _ {A : Type 0} (entriesIn : List A → List Entry) (carried : List Entry 
         let room = no-room k (length plan₀ / width) in
         (λ e. room .0 (test .0 (sym left ∙ n .0 e)), λ l. n .1 (left ∙ test .1 (room .1 l)))
 
+  -- a list that check plan accepts for (p, q) has at least the depth of the round in which the pair falls
+  shortest : (entries : List Entry) (d : ℕ) → checkCall s start entries ≡ given (p ∷ q ∷ d ∷ [])
+      → (j : ℕ) → T (refutedAt (ltsOf s) (startOf s start) j p q) → j ≤ d
+  unfolding checkRules
+  shortest entries d is j f = ⊎-elim
+      (λ e.
+      let a = check-promised s start entries _ is .answers e in
+      let v = ap (λ (x : Reply). x .values) (a .replied) in
+      let x : p ≡ lastOf entries .p = cc in
+      let y : q ≡ lastOf entries .q = cc in
+      let z : d ≡ a .depth = cc in
+      let wf = known s start (both-kept (inputRules s start) _ e .0) .formed in
+      let once = refuted-once (ltsOf s) wf (startOf s start) j (a .falls .0) p q f
+      (subst₂ (λ (m n : ℕ). T (refutedAt (ltsOf s) (startOf s start) (a .falls .0) m n)) (sym x) (sym y) (a .falls .2)) in
+      omega (arith, once, z, a .falls .1))
+      (λ r. absurd (numbered (r .0) (ap (λ (x : Reply). x .refusal) (check-broken s start entries _ is (r .0) (r .1)))))
+      (finding (checkRules s start entries))
+
   writing : broken rules ≡ Nothing → Writes entriesIn width s start p q plan₀ reply plan
   unfolding writeRules checkReply
   writing e =
@@ -268,6 +322,8 @@ module _ {A : Type 0} (entriesIn : List A → List Entry) (carried : List Entry 
       let sound = shows s start read [] .written p q (omega (arith, states, size)) (omega (arith, states, size)) dropped in
       let count : length es ≡ k = shows s start read [] .count p q in
       let last = shows s start read [] .last p q in
+      let falls = dropped-falls s start read p q dropped in
+      let depth : depthOf (ltsOf s) es ≡ roundOf s start p q = deep s start read .written p q _ (omega (arith, states, size)) (omega (arith, states, size)) falls in
       let room : width * k ≤ length plan₀ = le-trans (mul-le-mul-left width (leb-true _ _ (kept _ _ _ (c .1) .0))) (mul-div-le (length plan₀) width) in
       let now : plan ≡ carried es ++ drop (width * k) plan₀ = ap (λ (o : WriteOutcome A). o .plan) (write-kept e) in
       let wide : length (carried es) ≡ width * k = carrier .long es ∙ ap (λ (x : ℕ). width * x) count in
@@ -276,7 +332,9 @@ module _ {A : Type 0} (entriesIn : List A → List Entry) (carried : List Entry 
       let written : take k (entriesIn plan) ≡ es = rw (now, ← count) (carrier .back es small _) in
       record {
         replied = ap (λ (o : WriteOutcome A). o .reply) (write-kept e);
-        accepted = ap (λ (x : List Entry). checkCall s start x) written ∙ accepts s start es (headerOf s .states) refl read (sym (T-true _ sound)) refl (sym (last .0)) (sym (last .1));
+        accepted = ap (λ (x : List Entry). checkCall s start x) written ∙ accepts s start es (headerOf s .states) refl read (sym (T-true _ sound)) refl (sym (last .0)) (sym (last .1)) (sym depth);
+        falls = falls;
+        shortest = λ entries d f. shortest entries d f (roundOf s start p q) falls;
         written = written;
         stays = ap (drop (width * k)) now ∙ drop-at (carried es) _ (width * k) wide;
         long = ap length now ∙ length-append (carried es) _ ∙ omega (arith, wide, length-drop (width * k) plan₀, room);

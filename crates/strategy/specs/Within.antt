@@ -5,17 +5,12 @@ use mathlib.Core.Bool.{cond}
 use mathlib.Core.List.{List}
 use lib.Dec.{leb}
 use lib.ListN.{length, take}
-use Rattle.lts.specs.declared.Entry.{Entry}
 use Rattle.lts.specs.declared.Refusal.{Refusal}
 use Rattle.lts.specs.Strategy.{entriesOf}
 use Rattle.lts.specs.Rule.{Nothing, First, broken}
 use Rattle.strategy.specs.declared.Written.{Written}
 use Rattle.strategy.specs.declared.Written.the-variants.{Entries, Refused}
 use Rattle.strategy.specs.Write.{planOf, planLength, writeRules}
-
--- the entry that stands for what lies past the end of a list
-abbrev pub blank : Entry
-blank = record { p = 0; q = 0; a = 0; t = 0 }
 
 -- how many entries an answer counts: none where it is a refusal
 unfoldable pub entryCount : Written → ℕ

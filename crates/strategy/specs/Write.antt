@@ -1,6 +1,6 @@
 -- The call write plan: what it replies and leaves in its buffer (document 01, "Plans" and the table of refusals), and what is promised of
 -- it. The buffer's elements are numbers, entries or bytes; an entry takes `width` of them.
-use Prim.Native.Nat.{ℕ, _*_, _/_, _<_}
+use Prim.Native.Nat.{ℕ, _*_, _/_, _≤_, _<_}
 use mathlib.Core.Path.{_≡_}
 use mathlib.Core.Logic.{_↔_}
 use mathlib.Core.Bool.{not}
@@ -10,7 +10,7 @@ use lib.ListN.{length, take, drop}
 use Rattle.lts.specs.declared.Entry.{Entry}
 use Rattle.lts.specs.declared.Refusal.{Refusal}
 use Rattle.lts.specs.declared.Refusal.the-variants.{StillRelated, Buffer}
-use Rattle.lts.specs.Rounds.{refutationRound}
+use Rattle.lts.specs.Rounds.{refutedAt, refutationRound}
 use Rattle.lts.specs.Strategy.{strategy, strategyLength}
 use Rattle.lts.specs.Rule.{Rule, _otherwise_, Nothing, First, broken, checked, Reply, refused, given}
 use Rattle.encoding.specs.Records.{headerOf}
@@ -30,7 +30,10 @@ pub record WriteOutcome (A : Type 0) : Type 0 where
   pub reply : Reply
   pub plan : List A
 
--- the plan that is written for (p, q), and how many entries it has
+-- the round in which (p, q) falls, the plan that is written for it, and how many entries that has
+abbrev pub roundOf : List ℕ → List ℕ → ℕ → ℕ → ℕ
+roundOf s start p q = refutationRound (ltsOf s) (startOf s start) p q
+
 abbrev pub planOf : List ℕ → List ℕ → ℕ → ℕ → List Entry
 planOf s start p q = strategy (ltsOf s) (startOf s start) p q
 
@@ -43,7 +46,7 @@ unfoldable pub writeRules : List ℕ → List ℕ → ℕ → ℕ → ℕ → Li
 writeRules s start p q room =
     let n = headerOf s .states in
     pairRules s start p q
-    ++ leb (refutationRound (ltsOf s) (startOf s start) p q) (n * n) otherwise StillRelated
+    ++ leb (roundOf s start p q) (n * n) otherwise StillRelated
     ∷ leb (planLength s start p q) room otherwise Buffer
     ∷ []
 
@@ -57,10 +60,13 @@ writeCall carried width s start p q plan =
       plan = carried (planOf s start p q) ++ drop (width * planLength s start p q) plan;
     })
 
--- The buffer begins with so many entries as the reply says: check plan accepts them and answers (p, q). What is past them stays.
+-- The buffer begins with so many entries as the reply says: check plan accepts them and answers (p, q), with the round in which the pair
+-- falls as depth, and no list that it accepts for (p, q) has less. What is past the entries stays.
 pub record Writes {A : Type 0} (entriesIn : List A → List Entry) (width : ℕ) (s start : List ℕ) (p q : ℕ) (plan₀ : List A) (reply : Reply) (plan : List A) : Type 0 where
   pub replied : reply ≡ given (planLength s start p q ∷ [])
-  pub accepted : checkCall s start (take (planLength s start p q) (entriesIn plan)) ≡ given (p ∷ q ∷ [])
+  pub accepted : checkCall s start (take (planLength s start p q) (entriesIn plan)) ≡ given (p ∷ q ∷ roundOf s start p q ∷ [])
+  pub falls : T (refutedAt (ltsOf s) (startOf s start) (roundOf s start p q) p q)
+  pub shortest : (entries : List Entry) (depth : ℕ) → checkCall s start entries ≡ given (p ∷ q ∷ depth ∷ []) → roundOf s start p q ≤ depth
   pub written : take (planLength s start p q) (entriesIn plan) ≡ planOf s start p q
   pub stays : drop (width * planLength s start p q) plan ≡ drop (width * planLength s start p q) plan₀
   pub long : length plan ≡ length plan₀

@@ -2,19 +2,20 @@
 ghost use mathlib.Core.Path.{_≡_};
 ghost use Prim.Native.Nat.{_≤_, _<_};
 ghost use lib.ListN.{length};
-ghost use Rattle.lts.specs.Strategy.{accepted, entriesOf, entryNumbers};
+ghost use Rattle.lts.specs.Strategy.{entriesOf, entryNumbers};
 ghost use Rattle.encoding.specs.Denotation.{ltsOf};
 ghost use Rattle.transitions.specs.Table.{statesOf, tableLts, Formed};
 ghost use Rattle.relation.specs.Matrix.{relationOf, Matrix};
 ghost use Rattle.inputs.specs.Inputs.{Ready};
+ghost use Rattle.strategy_check.specs.Entries.{strategyMark};
 ghost use Rattle.strategy.specs.Check.{checkReply, checkCall, CheckPromise};
 ghost use Rattle.strategy.specs.Write.{writeReply, writeCall, WritePromise};
 ghost use Rattle.strategy.specs.Steps.{LastPair, writeOn};
 ghost use Rattle.strategy.specs.Within.{entryCount, numberCount, WrittenWithin};
 
-// What the check of a strategy answers: the last entry's pair.
+// What the check of a strategy answers: the last entry's pair and its depth.
 pub enum Verdict {
-    Last(usize, usize),
+    Last(usize, usize, usize),
     Refused(lts::Refusal),
 }
 
@@ -35,16 +36,16 @@ fn last_pair(numbers: &[u16]) -> Pair
     }
 }
 
-// Whether the strategy is accepted, on a sheet and a start that were read.
-fn accepted_readable(s: &[u8], h: encoding::Header, start: &[u64], numbers: &[u16]) -> bool
+// One more than the strategy's depth, on a sheet and a start that were read; 0 where it is not accepted.
+fn check_readable(s: &[u8], h: encoding::Header, start: &[u64], numbers: &[u16]) -> usize
     requires { ⌜ Ready (now s) h (now start) ⌝ }
-    ensures { λ r. ⌜ r ≡ accepted (ltsOf (now (s .entry))) (relationOf (h .states) (now (start .entry))) (entriesOf (now (numbers .entry))) ⌝ }
+    ensures { λ r. ⌜ r ≡ strategyMark (ltsOf (now (s .entry))) (relationOf (h .states) (now (start .entry))) (entriesOf (now (numbers .entry))) ⌝ }
 {
     let table = transitions::load(s, h);
     strategy_check::check_table(&table, start, numbers)
 }
 
-// Check plan: accepts a non-empty list of sound entries, and answers the last pair.
+// Check plan: accepts a non-empty list of sound entries, and answers the last pair and its depth.
 pub fn check_strategy(s: &[u8], start: &[u64], numbers: &[u16]) -> Verdict
     ensures { λ r. ⌜ checkCall (now (s .entry)) (now (start .entry)) (entriesOf (now (numbers .entry))) ≡ checkReply r ⌝ }
     ensures { λ r. ⌜ CheckPromise (now (s .entry)) (now (start .entry)) (entriesOf (now (numbers .entry))) (checkReply r) ⌝ }
@@ -53,11 +54,12 @@ pub fn check_strategy(s: &[u8], start: &[u64], numbers: &[u16]) -> Verdict
     match reading {
         encoding::Reading::Refused(r) => Verdict::Refused(r),
         encoding::Reading::Readable(h) => {
-            if !accepted_readable(s, h, start, numbers) {
+            let mark = check_readable(s, h, start, numbers);
+            if mark == 0 {
                 return Verdict::Refused(lts::Refusal::Unsound);
             }
             let pair = last_pair(numbers);
-            Verdict::Last(pair.first, pair.second)
+            Verdict::Last(pair.first, pair.second, mark - 1)
         }
     }
 }

@@ -8,11 +8,11 @@ use lib.Seq.{length-take-le}
 use Rattle.carry.specs.Carried.{numberOf, digits, numbersOf, listOf, bytesOf, stored}
 use Rattle.carry.proofs.Laws.{numbers-length, numbers-at, bytes-length}
 use Rattle.lts.specs.declared.Entry.{Entry}
-use Rattle.lts.specs.Strategy.{entriesOf, entryNumbers}
+use Rattle.lts.specs.Strategy.{entriesOf, entryNumbers, blank}
 use Rattle.strategy.specs.declared.Written.{Written}
 use Rattle.strategy.specs.Write.{writeReply, writeCall}
 use Rattle.strategy.proofs.Promise.{AllSmall, Carrier, numbers-carry, numbers-back}
-use Rattle.strategy.specs.Within.{blank, entryCount, WrittenWithin}
+use Rattle.strategy.specs.Within.{entryCount, WrittenWithin}
 use Rattle.strategy.proofs.Entries.{length-entries, entry-read}
 use Rattle.strategy.proofs.Within.{carried-within}
 use Rattle.strategy_bytes.specs.Bytes.{entryBytes, entriesOfBytes}

@@ -4,7 +4,7 @@ ghost use Prim.Native.Nat.{_≤_, _+_, _*_};
 ghost use lib.ListN.{length, getD};
 ghost use Rattle.strategy.specs.Check.{checkReply, checkCall, CheckPromise};
 ghost use Rattle.strategy.specs.Write.{writeReply, writeCall, WritePromise};
-ghost use Rattle.strategy.specs.Within.{blank};
+ghost use Rattle.lts.specs.Strategy.{blank};
 ghost use Rattle.strategy_bytes.specs.Bytes.{entryBytes, entriesOfBytes};
 
 // Entry i of those that the bytes carry.
@@ -28,7 +28,7 @@ pub fn check_bytes(s: &[u8], start: &[u64], plan: &[u8]) -> strategy::Verdict
 {
     let reading = inputs::read_inputs(s, start);
     let table = strategy_judge::load(s, reading);
-    let mut judged = [0u64; 1027];
+    let mut judged = [0u16; 65540];
     let n = plan.len() / 8;
     let mut at = 0;
     while at < n {

@@ -6,8 +6,10 @@ use case_files::output;
 // Writes the answer of a check.
 pub(crate) fn put_verdict(answer: strategy::Verdict) {
     match answer {
-        strategy::Verdict::Last(p, q) => output::put_two_values(p as u64, q as u64),
-        strategy::Verdict::Refused(r) => output::put_refused(r, 2),
+        strategy::Verdict::Last(p, q, depth) => {
+            output::put_three_values(p as u64, q as u64, depth as u64)
+        }
+        strategy::Verdict::Refused(r) => output::put_refused(r, 3),
     }
 }
 

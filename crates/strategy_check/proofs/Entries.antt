@@ -10,6 +10,7 @@ use Rattle.lts.specs.Bounded.{_⇒_, anyBelow, allBelow, listBelow}
 use Rattle.lts.specs.System.{Rel, Lts, allStates}
 use Rattle.lts.specs.declared.Entry.{Entry}
 use Rattle.lts.specs.Strategy.{holds, sound, allSound, accepted, entriesOf}
+use Rattle.strategy_depth.specs.Marks.{repliesIn}
 use Rattle.strategy_check.specs.Entries.{entryOf, holdsPair, heldBefore, repliesHeld, outside, soundOver, soundAt}
 
 -- the entries f 0 .. f (e - 1), the last first, before those of `earlier`
@@ -34,7 +35,7 @@ all-cons zero f = sym (and-true (f 0))
 all-cons (suc n) f = ap (λ (b : Bool). b && f (suc n)) (all-cons n f) ∙ and-assoc (f 0) (allBelow n (λ i. f (suc i))) (f (suc n))
 
 -- each of the entries f 0 .. f (n - 1) is sound exactly if the list of them is
-pub all-sound-below : (L : Lts) (start : Rel) (n : ℕ) (earlier : List Entry) (f : ℕ → Entry)
+all-sound-below : (L : Lts) (start : Rel) (n : ℕ) (earlier : List Entry) (f : ℕ → Entry)
     → allSound L start earlier (listBelow n f) ≡ allBelow n (λ e. sound L start (entriesUpTo earlier f e) (f e))
 unfolding allSound listBelow allBelow entriesUpTo
 all-sound-below L start zero earlier f = refl
@@ -79,11 +80,14 @@ entries-below (p ∷ q ∷ a ∷ []) = refl
 
 module _ (L : Lts) (start : Rel) (xs : List ℕ) where
   sound-at : (e : ℕ) → sound L start (entriesUpTo [] (entryOf xs) e) (entryOf xs e) ≡ soundAt L start xs e
-  unfolding sound soundAt soundOver outside repliesHeld entryOf
+  unfolding sound soundAt soundOver outside repliesHeld repliesIn entryOf
   sound-at e =
       let x = entryOf xs e in
       ap (λ (H : Rel). ltb (x .p) (L .states) && ltb (x .q) (L .states) && (outside start (x .p) (x .q) (x .a) (x .t) || L .transition (x .p) (x .a) (x .t) && allStates L (λ r. L .transition (x .q) (x .a) r ⇒ H (x .t) r)))
       (holds-before xs e)
+
+  pub all-sound-at : (n : ℕ) → allSound L start [] (listBelow n (entryOf xs)) ≡ allBelow n (soundAt L start xs)
+  all-sound-at n = all-sound-below L start n [] (entryOf xs) ∙ ap (allBelow n) (fun-ext sound-at)
 
   pub accepted-some : (length xs / 4 ≡ 0 → ⊥) → accepted L start (entriesOf xs) ≡ allBelow (length xs / 4) (soundAt L start xs)
   unfolding accepted listBelow
@@ -91,7 +95,7 @@ module _ (L : Lts) (start : Rel) (xs : List ℕ) where
     where
       some : (n : ℕ) → (n ≡ 0 → ⊥) → accepted L start (listBelow n (entryOf xs)) ≡ allBelow n (soundAt L start xs)
       some zero h = absurd (h refl)
-      some (suc n) h = all-sound-below L start (suc n) [] (entryOf xs) ∙ ap (allBelow (suc n)) (fun-ext sound-at)
+      some (suc n) h = all-sound-at (suc n)
 
   pub accepted-none : length xs / 4 ≡ 0 → accepted L start (entriesOf xs) ≡ false
   unfolding accepted listBelow

@@ -1,12 +1,16 @@
 -- The entries that a list of numbers carries, by their number: what the loops of the check go through.
-use Prim.Native.Nat.{ℕ, _+_, _*_}
-use mathlib.Core.Bool.{Bool, not, _&&_, _||_}
+use Prim.Native.Nat.{ℕ, suc, _+_, _*_, _%_}
+use mathlib.Core.Path.{_≡_}
+use mathlib.Core.Bool.{Bool, true, false, cond, not, _&&_, _||_}
 use mathlib.Core.List.{List}
 use lib.Dec.{eqb, ltb}
-use lib.ListN.{getD}
-use Rattle.lts.specs.Bounded.{_⇒_, anyBelow}
-use Rattle.lts.specs.System.{Rel, Lts, allStates}
+use lib.ListN.{getD, set}
+use Rattle.lts.specs.Bounded.{anyBelow}
+use Rattle.lts.specs.System.{Rel, Lts}
 use Rattle.lts.specs.declared.Entry.{Entry}
+use Rattle.lts.specs.Strategy.{accepted}
+use Rattle.lts.specs.Depth.{depthOf}
+use Rattle.strategy_depth.specs.Marks.{markOf, lowered, repliesIn, entryMark}
 
 -- entry number e of the list: four numbers, p, q, a, t
 unfoldable pub entryOf : List ℕ → ℕ → Entry
@@ -22,7 +26,7 @@ heldBefore xs e t r = anyBelow e (holdsPair xs t r)
 
 -- for each transition q, a, r an entry before number e holds (t, r)
 unfoldable pub repliesHeld : Lts → List ℕ → ℕ → ℕ → ℕ → ℕ → Bool
-repliesHeld L xs e q a t = allStates L (λ r. L .transition q a r ⇒ heldBefore xs e t r)
+repliesHeld L xs e q a t = repliesIn L (heldBefore xs e) q a t
 
 -- a = t = 0 and (p, q) is outside the starting preorder
 unfoldable pub outside : Rel → ℕ → ℕ → ℕ → ℕ → Bool
@@ -35,3 +39,15 @@ soundOver L start xs e p q a t =
 
 unfoldable pub soundAt : Lts → Rel → List ℕ → ℕ → Bool
 soundAt L start xs e = soundOver L start xs e (getD xs (4 * e) 0) (getD xs (4 * e + 1) 0) (getD xs (4 * e + 2) 0) (getD xs (4 * e + 3) 0)
+
+-- Entry e is checked, and its pair marked: an unsound one gets 0. A sound one gets one more than its depth by the marks of the pairs so far,
+-- and its pair's mark is lowered to that.
+pub record Marking (L : Lts) (start : Rel) (xs : List ℕ) (e : ℕ) (marks : List ℕ) (mark : ℕ) (other : List ℕ) : Type 0 where
+  pub unsound : soundAt L start xs e ≡ false → mark ≡ 0
+  pub own : soundAt L start xs e ≡ true → mark ≡ entryMark L (markOf marks) (entryOf xs e .q) (entryOf xs e .a) (entryOf xs e .t)
+  pub pair : soundAt L start xs e ≡ true
+      → other ≡ set marks (256 * entryOf xs e .p + entryOf xs e .q) (lowered (markOf marks (entryOf xs e .p) (entryOf xs e .q)) mark % 65536)
+
+-- the mark of a strategy: one more than its depth; 0 where it is not accepted
+unfoldable pub strategyMark : Lts → Rel → List Entry → ℕ
+strategyMark L start es = cond (accepted L start es) (suc (depthOf L es)) 0

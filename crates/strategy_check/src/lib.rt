@@ -2,10 +2,12 @@
 ghost use mathlib.Core.Path.{_≡_};
 ghost use Prim.Native.Nat.{_+_, _*_, _<_, _≤_};
 ghost use lib.ListN.{length};
-ghost use Rattle.lts.specs.Strategy.{accepted, entriesOf};
+ghost use lib.Dec.{T};
+ghost use Rattle.lts.specs.System.{reflexive};
+ghost use Rattle.lts.specs.Strategy.{entriesOf};
 ghost use Rattle.transitions.specs.Table.{statesOf, tableLts, Formed};
 ghost use Rattle.relation.specs.Matrix.{relationOf, Matrix};
-ghost use Rattle.strategy_check.specs.Entries.{holdsPair, repliesHeld, outside, soundOver, soundAt};
+ghost use Rattle.strategy_check.specs.Entries.{holdsPair, repliesHeld, outside, soundOver, strategyMark, Marking};
 
 // Whether entry j holds the pair (t, r).
 fn holds_pair(numbers: &[u16], j: usize, t: usize, r: usize) -> bool
@@ -87,39 +89,54 @@ fn is_sound(
     replies_held(table, numbers, e, q, a, t)
 }
 
-// Whether entry e is sound over the entries before it.
-fn is_sound_at(table: &transitions::Table, start: &[u64], numbers: &[u16], e: usize) -> bool
-    requires { ⌜ Formed (now table) × Matrix (statesOf (now table)) (now start) × (4 * e + 4 ≤ length (now numbers)) ⌝ }
+// Checks entry e and marks its pair: 0 where it is unsound over the entries before it, else one more than its depth.
+fn mark_at(
+    table: &transitions::Table,
+    start: &[u64],
+    numbers: &[u16],
+    e: usize,
+    marks: &mut [u16],
+) -> usize
+    requires { ⌜ Formed (now table) × Matrix (statesOf (now table)) (now start) × (4 * e + 4 ≤ length (now numbers)) × (65536 ≤ length (now marks)) ⌝ }
     ensures { λ x. ⌜ (
         let R = relationOf (statesOf (now (table .entry))) (now (start .entry)) in
-        x ≡ soundAt (tableLts (now (table .entry))) R (now (numbers .entry)) e
+        Marking (tableLts (now (table .entry))) R (now (numbers .entry)) e (now (marks .entry)) x (now (marks .exit))
         ) ⌝ }
 {
     let p = rows::wide(numbers[4 * e]);
     let q = rows::wide(numbers[4 * e + 1]);
     let a = rows::wide(numbers[4 * e + 2]);
     let t = rows::wide(numbers[4 * e + 3]);
-    is_sound(table, start, numbers, e, p, q, a, t)
+    if !is_sound(table, start, numbers, e, p, q, a, t) {
+        return 0;
+    }
+    let mark = strategy_depth::entry_mark(table, marks, q, a, t);
+    strategy_depth::lower(marks, p, q, mark);
+    mark
 }
 
-// Whether the numbers carry at least one entry, and each is sound over those before it.
-pub fn check_table(table: &transitions::Table, start: &[u64], numbers: &[u16]) -> bool
-    requires { ⌜ Formed (now table) × Matrix (statesOf (now table)) (now start) ⌝ }
+// Checks that the numbers carry at least one entry, and that each is sound over those before it: 0 where not, else one more than the
+// last entry's depth.
+pub fn check_table(table: &transitions::Table, start: &[u64], numbers: &[u16]) -> usize
+    requires { ⌜ (
+        let R = relationOf (statesOf (now table)) (now start) in
+        Formed (now table) × Matrix (statesOf (now table)) (now start) × T (reflexive (tableLts (now table)) R)
+        ) ⌝ }
     ensures { λ x. ⌜ (
         let R = relationOf (statesOf (now (table .entry))) (now (start .entry)) in
-        x ≡ accepted (tableLts (now (table .entry))) R (entriesOf (now (numbers .entry)))
+        x ≡ strategyMark (tableLts (now (table .entry))) R (entriesOf (now (numbers .entry)))
         ) ⌝ }
 {
     let count = numbers.len() / 4;
-    if count == 0 {
-        return false;
-    }
+    let mut marks = [0u16; 65536];
+    let mut last = 0;
     let mut e = 0;
     while e < count {
-        if !is_sound_at(table, start, numbers, e) {
-            return false;
+        last = mark_at(table, start, numbers, e, &mut marks);
+        if last == 0 {
+            return 0;
         }
         e += 1;
     }
-    true
+    last
 }

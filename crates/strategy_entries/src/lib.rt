@@ -3,10 +3,9 @@ ghost use mathlib.Core.Path.{_≡_};
 ghost use Prim.Native.Nat.{_≤_, _+_, _*_};
 ghost use mathlib.Core.List.{_++_};
 ghost use lib.ListN.{length, getD, take, drop};
-ghost use Rattle.lts.specs.Strategy.{entriesOf};
+ghost use Rattle.lts.specs.Strategy.{entriesOf, blank};
 ghost use Rattle.strategy.specs.Check.{checkReply, checkCall, CheckPromise};
 ghost use Rattle.strategy.specs.Write.{writeReply, writeCall, WritePromise};
-ghost use Rattle.strategy.specs.Within.{blank};
 ghost use Rattle.strategy_entries.specs.Entries.{itself};
 
 // The entry of the four numbers from 4i.
@@ -61,7 +60,7 @@ pub fn check_entries(s: &[u8], start: &[u64], plan: &[lts::Entry]) -> strategy::
 {
     let reading = inputs::read_inputs(s, start);
     let table = strategy_judge::load(s, reading);
-    let mut judged = [0u64; 1027];
+    let mut judged = [0u16; 65540];
     let n = plan.len();
     let mut at = 0;
     while at < n {

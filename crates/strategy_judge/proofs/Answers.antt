@@ -1,25 +1,25 @@
 -- The table of a reading, entries that are judged one by one, and the answer at the end. Assumes nothing.
-use Prim.Native.Nat.{ℕ, _+_, _*_, _<_}
-use mathlib.Core.Path.{_≡_, refl, sym, _∙_, ap, ap₂, subst}
+use Prim.Native.Nat.{ℕ, _+_, _<_}
+use mathlib.Core.Path.{_≡_, refl, sym, _∙_, ap, subst}
 use mathlib.Core.Logic.{inl, inr, ⊎-elim}
-use mathlib.Core.Bool.{Bool, true, false, cond, not, _||_}
+use mathlib.Core.Bool.{Bool, true, false, cond, _||_}
 use mathlib.Core.List.{List, [], _∷_}
 use native.Mathlib.Numerals.{add-one}
 use native.Mathlib.Omega.{arith}
 use lib.Dec.{eqb}
 use lib.ListN.{length, getD, take, replicate}
 use lib.Seq.{take-suc, take-length}
-use borrow.Author.Tests.{ne-eqb}
+use borrow.Author.Tests.{eq-eqb, ne-eqb}
 use Rattle.lts.specs.declared.Entry.{Entry}
 use Rattle.lts.specs.declared.Refusal.{Refusal}
 use Rattle.lts.specs.declared.Refusal.the-variants.{Unsound}
 use Rattle.lts.specs.System.{Rel, Lts}
-use Rattle.lts.specs.Strategy.{holds, allSound, accepted, lastOf}
+use Rattle.lts.specs.Strategy.{allSound, accepted, lastOf}
+use Rattle.lts.specs.Depth.{measured, firstDepth, depthOf}
 use Rattle.lts.specs.Rule.{Nothing, broken}
 use Rattle.lts.proofs.Rule.{finding}
 use Rattle.lts.proofs.Below.{clash}
-use Rattle.rows.specs.Rows.{inRow}
-use Rattle.rows.proofs.Rows.{getD-zeros, inRow-zeros}
+use Rattle.rows.proofs.Rows.{getD-zeros}
 use Rattle.encoding.specs.declared.Header.{Header}
 use Rattle.encoding.specs.declared.Reading.{Reading}
 use Rattle.encoding.specs.declared.Reading.the-variants.{Readable, Refused}
@@ -32,9 +32,10 @@ use Rattle.inputs.proofs.Laws.{reading-refused, reading-passed, input-broken, i
 use Rattle.strategy.specs.declared.Verdict.{Verdict}
 use Rattle.strategy.specs.declared.Verdict.the-variants.{Last, Refused as Rejected}
 use Rattle.strategy.specs.Check.{checkReply, startOf, checkCall}
-use Rattle.strategy.proofs.Loads.{loaded-states, loaded-matrix}
+use Rattle.strategy.proofs.Loads.{loaded-states, loaded-matrix, loaded-reflexive}
 use Rattle.strategy.proofs.Checks.{unready, unsound, accepts}
-use Rattle.strategy_judge.specs.Judging.{marked, Judging, Judges, Judgeable, ReadBy, Loads, verdictAt, Concludes}
+use Rattle.strategy_depth.proofs.Steps.{marked-none}
+use Rattle.strategy_judge.specs.Judging.{Noted, Judging, Judges, Judgeable, ReadBy, Loads, verdictAt, Concludes}
 
 -- ---- the table
 
@@ -66,18 +67,18 @@ module _ (s start : List ℕ) {reading : Reading} (read : reading ≡ readInputs
     pub loaded-judgeable : Judgeable t start
     unfolding readInputs
     loaded-judgeable = ⊎-elim
-        (λ e. inl (holds-sheet e .formed, loaded-matrix s (headerOf s) start (kept-ready s start refl e) (holds-sheet e)))
+        (λ e.
+        let ready = kept-ready s start refl e in
+        inl (holds-sheet e .formed, loaded-matrix s (headerOf s) start ready (holds-sheet e), loaded-reflexive s (headerOf s) start ready (holds-sheet e)))
         (λ e. inr (loads .empty (e .0) (read ∙ sym (reading-refused (inputRules s start) (headerOf s) (e .1))))) (finding (inputRules s start))
 
 -- ---- the first entries of a list
 
 pub judged-none : (L : Lts) (start : Rel) (n : ℕ) → Judging L start [] (replicate {A = ℕ} n 0)
-unfolding marked holds allSound lastOf
+unfolding allSound lastOf measured firstDepth depthOf
 judged-none L start n = record {
-  verdict = inRow-zeros n 65536;
-  pairs = λ _ p q _ _. inRow-zeros n (256 * p + q);
-  first = getD-zeros n 1025;
-  second = getD-zeros n 1026;
+  verdict = getD-zeros n 65536;
+  noted = λ _. record { marks = marked-none L n; first = getD-zeros n 65537; second = getD-zeros n 65538; depth = getD-zeros n 65539 };
 }
 
 module _ (L : Lts) (start : Rel) (es : List Entry) (at : ℕ) {judged : List ℕ} (known : Judging L start (take at es) judged) where
@@ -90,37 +91,44 @@ module _ (L : Lts) (start : Rel) (es : List Entry) (at : ℕ) {judged : List ℕ
 
 -- ---- the answer
 
-module _ (judged : List ℕ) (count : ℕ) {b : Bool} (test : b ≡ inRow judged 65536) where
-  pub answer-unsound : eqb count 0 || b ≡ true → Rejected Unsound ≡ verdictAt judged count
+module _ (judged : List ℕ) (count : ℕ) where
+  pub answer-unsound : eqb count 0 || eqb (getD judged 65536 0) 1 ≡ true → Rejected Unsound ≡ verdictAt judged count
   unfolding verdictAt
-  answer-unsound h = rw (← test, h)
+  answer-unsound h = rw h
 
-  pub answer-last : eqb count 0 || b ≡ false → Last (getD judged 1025 0) (getD judged 1026 0) ≡ verdictAt judged count
+  pub answer-last : eqb count 0 || eqb (getD judged 65536 0) 1 ≡ false
+      → Last (getD judged 65537 0) (getD judged 65538 0) (getD judged 65539 0) ≡ verdictAt judged count
   unfolding verdictAt
-  answer-last h = rw (← test, h)
-
-flip : (b : Bool) (x y : Verdict) → cond (not b) x y ≡ cond b y x
-flip true x y = refl
-flip false x y = refl
+  answer-last h = rw h
 
 -- the answer of the definitions for the entries es
-abbrev told : Bool → List Entry → Verdict
-told b es = cond b (Last (lastOf es .p) (lastOf es .q)) (Rejected Unsound)
+abbrev told : Lts → Bool → List Entry → Verdict
+told L b es = cond b (Last (lastOf es .p) (lastOf es .q) (depthOf L es)) (Rejected Unsound)
 
 verdict-told : (L : Lts) (start : Rel) (judged : List ℕ) (count : ℕ) (es : List Entry) → length es ≡ count → Judging L start es judged
-    → verdictAt judged count ≡ told (accepted L start es) es
+    → verdictAt judged count ≡ told L (accepted L start es) es
 unfolding accepted verdictAt
 verdict-told L start judged count [] h known = ap (verdictAt judged) (sym h)
 verdict-told L start judged count (x ∷ es) h known =
-    let some : eqb count 0 ≡ false = ne-eqb count 0 (λ d. omega (arith, h, d)) in
-    ap (λ (b : Bool). cond (b || inRow judged 65536) (Rejected Unsound) (Last (getD judged 1025 0) (getD judged 1026 0))) some
-    ∙ ap₂ (λ (p q : ℕ). cond (inRow judged 65536) (Rejected Unsound) (Last p q)) (known .first) (known .second)
-    ∙ ap (λ (b : Bool). cond b (Rejected Unsound) (Last (lastOf (x ∷ es) .p) (lastOf (x ∷ es) .q))) (known .verdict)
-    ∙ flip (allSound L start [] (x ∷ es)) (Rejected Unsound) (Last (lastOf (x ∷ es) .p) (lastOf (x ∷ es) .q))
+    ap (λ (b : Bool). cond (b || eqb (getD judged 65536 0) 1) (Rejected Unsound) last) some ∙ go (allSound L start [] (x ∷ es)) (known .verdict) (λ e. known .noted e)
+  where
+    last : Verdict
+    last = Last (getD judged 65537 0) (getD judged 65538 0) (getD judged 65539 0)
+
+    some : eqb count 0 ≡ false
+    some = ne-eqb count 0 (λ d. omega (arith, h, d))
+
+    go : (b : Bool) → getD judged 65536 0 ≡ cond b 0 1 → (b ≡ true → Noted L (x ∷ es) judged)
+        → cond (eqb (getD judged 65536 0) 1) (Rejected Unsound) last ≡ told L b (x ∷ es)
+    go false v k = ap (λ (b : Bool). cond b (Rejected Unsound) last) (eq-eqb _ _ v)
+    go true v k =
+        let n = k refl in
+        ap (λ (b : Bool). cond b (Rejected Unsound) last) (ne-eqb (getD judged 65536 0) 1 (λ d. omega (arith, v, d)))
+        ∙ rw (n .first, n .second, n .depth)
 
 call-told : (s start : List ℕ) (es : List Entry) (b : Bool) → broken (inputRules s start) ≡ Nothing → b ≡ accepted (ltsOf s) (startOf s start) es
-    → checkCall s start es ≡ checkReply (told b es)
-call-told s start es true kept t = accepts s start es _ refl kept t refl refl refl
+    → checkCall s start es ≡ checkReply (told (ltsOf s) b es)
+call-told s start es true kept t = accepts s start es _ refl kept t refl refl refl refl
 call-told s start es false kept t = unsound s start es _ refl kept t refl
 
 module _ {reading : Reading} (judged : List ℕ) (count : ℕ) where

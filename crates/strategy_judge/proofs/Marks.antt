@@ -1,57 +1,57 @@
 -- An entry on a table, test by test: soundness over the pairs that have the mark. Assumes nothing.
-use Prim.Native.Nat.{ℕ, _+_, _*_, _≤_, _<_}
-use mathlib.Core.Path.{_≡_, sym, _∙_, ap, ap₂, subst, subst⁻¹}
+use Prim.Native.Nat.{ℕ, _+_, _≤_, _<_}
+use mathlib.Core.Path.{_≡_, refl, sym, _∙_, ap, ap₂, subst, subst⁻¹}
 use mathlib.Core.Logic.{_⊎_, inl, inr, ⊎-elim}
-use mathlib.Core.Bool.{Bool, true, false, not, _&&_, _||_}
+use mathlib.Core.Bool.{Bool, true, false, cond, not, _&&_, _||_}
 use mathlib.Core.List.{List}
 use native.Mathlib.Omega.{arith}
-use lib.Dec.{ltb}
-use lib.ListN.{length, drop, length-drop}
-use borrow.Author.Tests.{lt-ltb, le-ltb, ltb-true, not-true, not-false}
+use lib.Dec.{T, eqb, ltb}
+use borrow.Author.Tests.{lt-ltb, le-ltb, ltb-true, eqb-true, not-true, not-false}
 use Rattle.lts.specs.declared.Entry.{Entry}
 use Rattle.lts.specs.Bounded.{_⇒_}
-use Rattle.lts.specs.System.{Rel, Lts, WellFormed, allStates}
-use Rattle.lts.proofs.Below.{either, true-T, and-fst, and-snd, all-cong, all-shorter}
-use Rattle.rows.specs.Rows.{inRow, rowOf, includedBelow}
-use Rattle.rows.proofs.Rows.{inRow-of, part-in}
+use Rattle.lts.specs.System.{Rel, Lts, WellFormed, allStates, reflexive}
+use Rattle.lts.proofs.Below.{either, true-T, and-fst, and-snd, all-cong}
+use Rattle.rows.specs.Rows.{inRow, rowOf}
+use Rattle.rows.proofs.Rows.{inRow-of}
 use Rattle.transitions.specs.Table.{statesOf, tableLts, Formed}
 use Rattle.transitions.proofs.Entries.{table-formed}
 use Rattle.relation.specs.Matrix.{relationOf, Matrix}
+use Rattle.strategy_depth.specs.Marks.{marked, repliesIn, replyDepth, entryMark}
+use Rattle.strategy_depth.proofs.Replies.{depth-marked, depth-unmarked, entry-outside, entry-moved, entry-some}
 use Rattle.strategy_check.specs.Entries.{outside}
-use Rattle.strategy_judge.specs.Judging.{marked, repliesIn, soundOn, memberOf, Judgeable}
+use Rattle.strategy_judge.specs.Judging.{soundOn, markOver, Judgeable}
 
 -- a transition leads to no number from the count of states on
 no-target : (L : Lts) → WellFormed L → (p a r : ℕ) → L .states ≤ r → L .transition p a r ≡ false
 no-target L wf p a r h = ⊎-elim (λ (e : L .transition p a r ≡ true). absurd (omega (arith, h, wf .target p a r (true-T _ e)))) (λ e. e) (either (L .transition p a r))
 
--- ---- the rows from a state's on
-pub marks-long : (judged : List ℕ) (t : ℕ) → length judged ≡ 1027 → t < 256 → 4 ≤ length (drop (4 * t) judged)
-marks-long judged t long h = omega (arith, length-drop (4 * t) judged, long, h)
-
 -- ---- a transition, and the replies to it
-module _ (t : List ℕ) (ok : Formed t) (judged : List ℕ) (p q a x : ℕ) (low : x < statesOf t) where
+module _ (t : List ℕ) (ok : Formed t) (marks : ℕ → ℕ → ℕ) (p q a x : ℕ) (low : x < statesOf t) where
   abbrev L : Lts
   L = tableLts t
 
-  leads-in : {row : List ℕ} → row ≡ rowOf 4 (L .transition p a) → inRow row x ≡ L .transition p a x
-  leads-in e = ap (λ (r : List ℕ). inRow r x) e ∙ inRow-of 4 (L .transition p a) x (omega (arith, low, ok .states))
+  -- the mark where p leads to x by a and the replies have marks, by the two tests
+  abbrev tested : Bool → Bool → ℕ
+  tested b c = cond (b && c) (entryMark L marks q a x) 0
 
-  pub no-transition : {row : List ℕ} {b : Bool} → row ≡ rowOf 4 (L .transition p a) → b ≡ inRow row x → not b ≡ true → false ≡ L .transition p a x && repliesIn L (marked judged) q a x
-  no-transition e f h = sym (ap (λ (b : Bool). b && repliesIn L (marked judged) q a x) (sym (f ∙ leads-in e) ∙ not-true _ h))
+  module _ {row : List ℕ} {b : Bool} (e : row ≡ rowOf 4 (L .transition p a)) (f : b ≡ inRow row x) where
+    leads-in : L .transition p a x ≡ b
+    leads-in = sym (f ∙ ap (λ (r : List ℕ). inRow r x) e ∙ inRow-of 4 (L .transition p a) x (omega (arith, low, ok .states)))
 
-  replies-within : {row part : List ℕ} → row ≡ rowOf 4 (L .transition q a) → part ≡ drop (4 * x) judged
-      → includedBelow (4 * 64) (inRow row) (inRow part) ≡ repliesIn L (marked judged) q a x
-  unfolding includedBelow repliesIn allStates marked tableLts
-  replies-within e f =
-      let few : statesOf t ≤ 4 * 64 = omega (arith, ok .states) in
-      all-cong (4 * 64) _ (λ r. L .transition q a r ⇒ inRow judged (256 * x + r)) (λ r h. ap₂ (λ (b c : Bool). b ⇒ c)
-      (ap (λ (l : List ℕ). inRow l r) e ∙ inRow-of 4 (L .transition q a) r h) (ap (λ (l : List ℕ). inRow l r) f ∙ part-in judged x r))
-      ∙ all-shorter (statesOf t) (4 * 64) _ few (λ r l h. ap (λ (b : Bool). b ⇒ inRow judged (256 * x + r)) (no-target L (table-formed t ok) q a r l))
+    pub no-transition : not b ≡ true → 0 ≡ tested (L .transition p a x) (repliesIn L (marked marks) q a x)
+    no-transition h = sym (ap (λ (c : Bool). tested c (repliesIn L (marked marks) q a x)) (leads-in ∙ not-true _ h))
 
-  pub replies-marked : {row replies part : List ℕ} {b c : Bool} → row ≡ rowOf 4 (L .transition p a) → b ≡ inRow row x → not b ≡ false
-      → replies ≡ rowOf 4 (L .transition q a) → part ≡ drop (4 * x) judged → c ≡ includedBelow (4 * 64) (inRow replies) (inRow part)
-      → c ≡ L .transition p a x && repliesIn L (marked judged) q a x
-  replies-marked e f h g k w = w ∙ replies-within g k ∙ sym (ap (λ (b : Bool). b && repliesIn L (marked judged) q a x) (sym (f ∙ leads-in e) ∙ not-false _ h))
+    module _ (h : not b ≡ false) {d : ℕ} (w : d ≡ replyDepth L marks q a x) where
+      leads : L .transition p a x ≡ true
+      leads = leads-in ∙ not-false _ h
+
+      pub no-mark : d ≡ 0 → 0 ≡ tested (L .transition p a x) (repliesIn L (marked marks) q a x)
+      no-mark z = sym (ap₂ tested leads (depth-unmarked L marks q a x (sym w ∙ z)))
+
+      pub replies-marked : (d ≡ 0 → ⊥) → d + 1 ≡ tested (L .transition p a x) (repliesIn L (marked marks) q a x)
+      replies-marked k =
+          let named = table-formed t ok .action p a x (true-T _ leads) in
+          entry-moved L marks q a x (λ z. omega (arith, z, named .0)) w ∙ sym (ap₂ tested leads (depth-marked L marks q a x (λ z. k (w ∙ z))))
 
 -- ---- an entry, test by test: n is the count of states, and `words` the start's
 
@@ -99,15 +99,35 @@ module _ (t words : List ℕ) (M : Rel) (e : Entry) {n : ℕ} (size : n ≡ stat
       pub sound-inside : {c : Bool} → c ≡ S .transition (e .p) (e .a) (e .t) && repliesIn S M (e .q) (e .a) (e .t) → c ≡ soundOn S start M e
       sound-inside k = k ∙ inside
 
--- ---- the member that it adds
-module _ (L : Lts) (start : Rel) (judged : List ℕ) (e : Entry) where
-  pub member-pair : soundOn L start (marked judged) e ≡ true → 256 * e .p + e .q ≡ memberOf L start judged e
-  unfolding memberOf
-  member-pair h = rw h
+-- ---- its mark
+module _ (L : Lts) (start : Rel) (marks : ℕ → ℕ → ℕ) (e : Entry) where
+  pub mark-by : {x : ℕ} (b : Bool) → b ≡ soundOn L start (marked marks) e → x ≡ cond b (entryMark L marks (e .q) (e .a) (e .t)) 0 → x ≡ markOver L start marks e
+  unfolding markOver
+  mark-by b h k = k ∙ ap (λ (c : Bool). cond c (entryMark L marks (e .q) (e .a) (e .t)) 0) h
 
-  pub member-unsound : soundOn L start (marked judged) e ≡ false → 65536 ≡ memberOf L start judged e
-  unfolding memberOf
-  member-unsound h = rw h
+  -- for a = 0
+  pub mark-outside : (R : Rel) {b : Bool} → true ≡ soundOn L start (marked marks) e → b ≡ outside R (e .p) (e .q) (e .a) (e .t) → b ≡ true → 1 ≡ markOver L start marks e
+  unfolding outside
+  mark-outside R h o u =
+      let z = eqb-true (e .a) 0 (and-fst (eqb (e .a) 0) (eqb (e .t) 0) (and-fst (eqb (e .a) 0 && eqb (e .t) 0) (not (R (e .p) (e .q))) (sym o ∙ u))) in
+      mark-by true h (entry-outside L marks (e .q) (e .a) (e .t) z)
+
+  -- an entry has a mark exactly if it is sound
+  pub mark-some : {x : ℕ} → x ≡ markOver L start marks e → (x ≡ 0 → ⊥) → (soundOn L start (marked marks) e ≡ true) × (x ≡ entryMark L marks (e .q) (e .a) (e .t))
+  unfolding markOver
+  mark-some {x} k h = go (soundOn L start (marked marks) e) k
+    where
+      go : (b : Bool) → x ≡ cond b (entryMark L marks (e .q) (e .a) (e .t)) 0 → (b ≡ true) × (x ≡ entryMark L marks (e .q) (e .a) (e .t))
+      go true w = (refl, w)
+      go false w = absurd (h w)
+
+  pub mark-none : {x : ℕ} → x ≡ markOver L start marks e → x ≡ 0 → soundOn L start (marked marks) e ≡ false
+  unfolding markOver
+  mark-none {x} k z = go (soundOn L start (marked marks) e) k
+    where
+      go : (b : Bool) → x ≡ cond b (entryMark L marks (e .q) (e .a) (e .t)) 0 → b ≡ false
+      go true w = absurd (let s = entry-some L marks (e .q) (e .a) (e .t) in omega (arith, z, w, s))
+      go false w = refl
 
 -- the pair of a sound entry is a pair of states
 pub sound-states : (L : Lts) (start M : Rel) (e : Entry) → soundOn L start M e ≡ true → (e .p < L .states) × (e .q < L .states)
@@ -118,15 +138,16 @@ sound-states L start M e h =
 
 -- Soundness depends on the earlier entries only through the pairs below 256 that they hold: transitions lead to states, of which there are
 -- at most 256; and without states nothing is sound.
-abbrev pub Small : Lts → Type 0
-Small L = (WellFormed L × (L .states ≤ 256)) ⊎ (L .states ≡ 0)
+abbrev pub Small : Lts → Rel → Type 0
+Small L start = (WellFormed L × (L .states ≤ 256) × T (reflexive L start)) ⊎ (L .states ≡ 0)
 
-pub judgeable-small : (t words : List ℕ) → Judgeable t words → Small (tableLts t)
+pub judgeable-small : (t words : List ℕ) → Judgeable t words → Small (tableLts t) (relationOf (statesOf t) words)
 unfolding tableLts
-judgeable-small t words can = ⊎-elim (λ k. inl (table-formed t (k .0), k .0 .states)) (λ z. inr z) can
+judgeable-small t words can = ⊎-elim (λ k. inl (table-formed t (k .0), k .0 .states, k .2)) (λ z. inr z) can
 
-pub small-states : (L : Lts) → Small L → L .states ≤ 256
-small-states L small = ⊎-elim (λ k. k .1) (λ z. omega (arith, z)) small
+-- with a state it is a system with a reflexive start
+pub small-some : (L : Lts) (start : Rel) {p : ℕ} → Small L start → p < L .states → WellFormed L × (L .states ≤ 256) × T (reflexive L start)
+small-some L start small h = ⊎-elim (λ k. k) (λ z. absurd (omega (arith, z, h))) small
 
 module _ (L : Lts) (start M N : Rel) (same : (p q : ℕ) → p < 256 → q < 256 → M p q ≡ N p q) (e : Entry) where
   replies-agree : L .states ≤ 256 → e .t < L .states → repliesIn L M (e .q) (e .a) (e .t) ≡ repliesIn L N (e .q) (e .a) (e .t)
@@ -139,7 +160,7 @@ module _ (L : Lts) (start M N : Rel) (same : (p q : ℕ) → p < 256 → q < 256
   agree wf few (inr f) = ap (λ (b : Bool). b && repliesIn L M (e .q) (e .a) (e .t)) f ∙ sym (ap (λ (b : Bool). b && repliesIn L N (e .q) (e .a) (e .t)) f)
   agree wf few (inl u) = ap (λ (b : Bool). L .transition (e .p) (e .a) (e .t) && b) (replies-agree few (wf .target _ _ _ (true-T _ u)))
 
-  pub sound-agree : Small L → soundOn L start M e ≡ soundOn L start N e
+  pub sound-agree : Small L start → soundOn L start M e ≡ soundOn L start N e
   unfolding soundOn
   sound-agree (inl k) =
       ap (λ (b : Bool). ltb (e .p) (L .states) && ltb (e .q) (L .states) && (outside start (e .p) (e .q) (e .a) (e .t) || b))

@@ -56,6 +56,26 @@ pub fn flow(rng: &mut Prng, sizes: Sizes) -> Lts {
     rng.shuffle(&mut moves);
     moves.truncate(MOST_MOVES);
     let marks = [0, 0, 5, 30, 50][rng.below(5)];
+    marked(rng, n, m, &moves, marks)
+}
+
+/// A flow as above, or two cycles with a few moves more and a few end marks, on
+/// which plans go deep.
+pub fn for_plans(rng: &mut Prng, sizes: Sizes) -> Lts {
+    if rng.chance(60) {
+        return flow(rng, sizes);
+    }
+    let n = rng.between(3, 14);
+    let first = rng.between(1, n);
+    let mut moves = [cycle(0, first), cycle(first, n - first)].concat();
+    for _ in 0..rng.below(4) {
+        moves.push((rng.below(n), rng.between(1, 2), rng.below(n)));
+    }
+    marked(rng, n, 2, &moves, 15)
+}
+
+/// The flow with these moves and with end marks in `marks` percent of the states.
+fn marked(rng: &mut Prng, n: usize, m: usize, moves: &[Move], marks: usize) -> Lts {
     let end_marks = (0..n).map(|_| rng.chance(marks)).collect();
     let transition = |&(source, action, target): &Move| Transition {
         source,

@@ -57,7 +57,8 @@ pub fn case(call: Call, seed: u64) -> Case {
             case.bytes.push(claim);
         }
         Call::CheckPlan => {
-            let (lts, start) = flow_and_start(rng, FEW, &mut case);
+            let lts = flows::for_plans(rng, FEW);
+            let start = start_of(rng, &lts, &mut case);
             let plan = plan_to_check(rng, &lts, &start);
             case.bytes.push(carried16(&plan));
             odd_byte(rng, &mut case);
@@ -96,17 +97,29 @@ pub fn case(call: Call, seed: u64) -> Case {
 /// A flow of either kind; its sheet is the case's first buffer.
 fn flow_and_sheet(rng: &mut Prng, sizes: Sizes, case: &mut Case) -> LabelledLts {
     let lts = flows::flow(rng, sizes);
-    let flow = random::labelled(rng, &lts);
+    labelled(rng, &lts, case)
+}
+
+/// The flow as one of either kind; its sheet is the case's first buffer.
+fn labelled(rng: &mut Prng, lts: &Lts, case: &mut Case) -> LabelledLts {
+    let flow = random::labelled(rng, lts);
     case.bytes.push(sheet(rng, &flow, DAMAGED));
     flow
 }
 
 /// A flow and a start; sheet and grid are the case's first buffers.
 fn flow_and_start(rng: &mut Prng, sizes: Sizes, case: &mut Case) -> (Lts, Preorder) {
-    let flow = flow_and_sheet(rng, sizes, case);
-    let start = grids::preorder(rng, flow.lts());
+    let lts = flows::flow(rng, sizes);
+    let start = start_of(rng, &lts, case);
+    (lts, start)
+}
+
+/// A start for a flow; sheet and grid are the case's first buffers.
+fn start_of(rng: &mut Prng, lts: &Lts, case: &mut Case) -> Preorder {
+    labelled(rng, lts, case);
+    let start = grids::preorder(rng, lts);
     case.bytes.push(grids::start(rng, &start, BROKEN));
-    (flow.lts().clone(), start)
+    start
 }
 
 /// Random bytes.
@@ -295,8 +308,75 @@ fn odd_byte(rng: &mut Prng, case: &mut Case) {
     }
 }
 
-/// A plan to be checked: a written one, one that was changed, or anything.
+/// A plan to be checked: one with detours, as it is or with one entry damaged; a
+/// written one, as it is or changed; or anything.
 fn plan_to_check(rng: &mut Prng, lts: &Lts, start: &Preorder) -> Vec<u16> {
+    let n = lts.states();
+    let mut plan = match rng.below(10) {
+        0..=2 => detours(rng, lts, start),
+        3 | 4 => {
+            let mut plan = detours(rng, lts, start);
+            damage_entry(rng, n, &mut plan);
+            plan
+        }
+        5 => {
+            let count = rng.below(12);
+            any_numbers(rng, count, n)
+        }
+        _ => changed_plan(rng, lts, start),
+    };
+    let entries = plan.len() / ENTRY_NUMBERS;
+    if (1..64).contains(&entries) && rng.below(500) == 0 {
+        // More entries than there are pairs.
+        plan = plan.repeat(65_537usize.div_ceil(entries));
+    }
+    let rest = rng.below(ENTRY_NUMBERS);
+    plan.extend(any_numbers(rng, rest, n));
+    plan
+}
+
+/// A plan of sound entries, in which pairs come again at other depths, and whose
+/// last entry is often deeper than the written plan. On large flows it is short,
+/// for the independent program takes long to make it.
+fn detours(rng: &mut Prng, lts: &Lts, start: &Preorder) -> Vec<u16> {
+    let most = match lts.states() {
+        0..=20 => 40,
+        21..=66 => 24,
+        _ => 12,
+    };
+    let entries = rng.between(1, most);
+    let mut plan = random::sound_plan(rng, lts, start, entries);
+    if rng.chance(50) {
+        // Up to its deepest entry.
+        let depths = plan.depths(lts);
+        let deepest = (0..depths.len()).max_by_key(|&at| depths[at]);
+        plan.entries.truncate(deepest.map_or(0, |at| at + 1));
+    }
+    plan.numbers()
+}
+
+/// Damages one entry of a plan: its pair turned around, its move left out, another
+/// number in it, or another entry in its place.
+fn damage_entry(rng: &mut Prng, n: usize, plan: &mut [u16]) {
+    let entries = plan.len() / ENTRY_NUMBERS;
+    if entries == 0 {
+        return;
+    }
+    let at = ENTRY_NUMBERS * rng.below(entries);
+    match rng.below(5) {
+        0 => plan.swap(at, at + 1),
+        1 => plan[at + 2..at + ENTRY_NUMBERS].fill(0),
+        2 => plan[at + rng.below(ENTRY_NUMBERS)] = rng.bits() as u16,
+        3 => plan[at + rng.below(ENTRY_NUMBERS)] = any_numbers(rng, 1, n + 1)[0],
+        _ => {
+            let other = ENTRY_NUMBERS * rng.below(entries);
+            plan.copy_within(other..other + ENTRY_NUMBERS, at);
+        }
+    }
+}
+
+/// A written plan, as it is or changed.
+fn changed_plan(rng: &mut Prng, lts: &Lts, start: &Preorder) -> Vec<u16> {
     let n = lts.states();
     let (p, q) = pair(rng, lts, start);
     let mut plan = plan_of(lts, start, p, q).unwrap_or_default();
@@ -323,24 +403,14 @@ fn plan_to_check(rng: &mut Prng, lts: &Lts, start: &Preorder) -> Vec<u16> {
             let at = rng.below(plan.len());
             plan[at] = rng.bits() as u16;
         }
-        5 => {
-            let count = rng.below(12);
-            plan = any_numbers(rng, count, n);
-        }
-        6 if !lts.transitions().is_empty() => {
+        5 if !lts.transitions().is_empty() => {
             // A move and any page to answer it.
             let t = lts.transitions()[rng.below(lts.transitions().len())];
             let numbers = [t.source, rng.below(n), t.action, t.target];
             plan.extend(numbers.map(|x| x as u16));
         }
-        7 if (1..64).contains(&entries) && rng.below(50) == 0 => {
-            // More entries than there are pairs.
-            plan = plan.repeat(65_537usize.div_ceil(entries));
-        }
         _ => {}
     }
-    let rest = rng.below(ENTRY_NUMBERS);
-    plan.extend(any_numbers(rng, rest, n));
     plan
 }
 
@@ -359,4 +429,82 @@ fn plan_buffer(rng: &mut Prng, lts: &Lts, start: &Preorder, p: usize, q: usize) 
         right + rng.below(3 * ENTRY_NUMBERS)
     };
     any_numbers(rng, count, usize::from(u16::MAX))
+}
+
+#[cfg(test)]
+mod tests {
+    use super::{case, damage_entry, detours};
+    use crate::case::Call;
+    use crate::flows::{self, Sizes};
+    use crate::grids;
+    use crate::sides::expected;
+    use reference::lts::Lts;
+    use reference::plans::{Rounds, Strategy};
+    use reference::prng::Prng;
+    use reference::relation::Preorder;
+    use std::collections::BTreeMap;
+
+    /// No flow is large.
+    const SMALL: Sizes = Sizes { large: 0, edges: 0 };
+
+    /// Does a pair come again at another depth?
+    fn is_again(lts: &Lts, plan: &Strategy) -> bool {
+        let mut of_pair = BTreeMap::new();
+        let pairs = plan.entries.iter().map(|entry| (entry.p, entry.q));
+        pairs
+            .zip(plan.depths(lts))
+            .any(|(pair, depth)| *of_pair.entry(pair).or_insert(depth) != depth)
+    }
+
+    /// Is the last entry deeper than the round of its pair?
+    fn is_deeper(lts: &Lts, start: &Preorder, plan: &Strategy) -> bool {
+        let last = plan.entries[plan.entries.len() - 1];
+        let round = Rounds::of(lts, start).falls_at(last.p.into(), last.q.into());
+        plan.depths(lts).last().copied() > round
+    }
+
+    /// Of the plans with detours many have a pair at several depths, and many
+    /// end deeper than the written plan; with an entry damaged most are refused.
+    #[test]
+    fn detours_and_damage() {
+        let (mut plans, mut again, mut deeper, mut refused) = (0, 0, 0, 0);
+        for seed in 0..2_000 {
+            let rng = &mut Prng::new(seed);
+            let lts = flows::for_plans(rng, SMALL);
+            let start = grids::preorder(rng, &lts);
+            let mut numbers = detours(rng, &lts, &start);
+            if numbers.is_empty() {
+                continue;
+            }
+            let plan = Strategy::read(&numbers);
+            assert!(plan.is_accepted(&lts, &start));
+            plans += 1;
+            again += usize::from(is_again(&lts, &plan));
+            deeper += usize::from(is_deeper(&lts, &start, &plan));
+            damage_entry(rng, lts.states(), &mut numbers);
+            let damaged = Strategy::read(&numbers);
+            refused += usize::from(!damaged.is_accepted(&lts, &start));
+        }
+        assert!(plans > 1_000, "{plans}");
+        assert!(3 * again > plans && 3 * deeper > plans, "{again} {deeper}");
+        assert!(2 * refused > plans, "{refused}");
+    }
+
+    /// Plans are often accepted, also with a depth above 2, and often refused.
+    #[test]
+    fn plans_to_check() {
+        let (mut accepted, mut unsound, mut deep) = (0, 0, 0);
+        for seed in 0..2_000 {
+            match expected(&case(Call::CheckPlan, seed)).answer {
+                Ok(values) => {
+                    accepted += 1;
+                    deep += usize::from(values[2] > 2);
+                }
+                Err(refusal) => unsound += usize::from(refusal.number == 14),
+            }
+        }
+        assert!(accepted > 500, "{accepted}");
+        assert!(unsound > 500, "{unsound}");
+        assert!(deep > 80, "{deep}");
+    }
 }

@@ -49,7 +49,8 @@ fn archive_answer(
             flow::test_simulation(sheet, start, claim).map(|yes| vec![yes.into()])
         }
         (Call::CheckPlan, [sheet, start, plan], []) => {
-            flow::check_plan(sheet, start, plan).map(|pair| vec![pair.p.into(), pair.q.into()])
+            let flow::Accepted { pair, depth } = flow::check_plan(sheet, start, plan)?;
+            Ok(vec![pair.p.into(), pair.q.into(), depth.into()])
         }
         (Call::WritePlan, [sheet, start, plan], &[p, q]) => {
             flow::write_plan(sheet, start, p, q, plan).map(|count| vec![count as u64])
@@ -106,8 +107,9 @@ fn expected_answer(
             Ok(vec![yes.into()])
         }
         (Call::CheckPlan, [sheet, start, plan], []) => {
-            let (p, q) = plans::check_plan(sheet, &words(start), &list16(plan))?;
-            Ok(vec![p.into(), q.into()])
+            let accepted = plans::check_plan(sheet, &words(start), &list16(plan))?;
+            let plans::Checked { p, q, depth } = accepted;
+            Ok(vec![p.into(), q.into(), depth as u64])
         }
         (Call::WritePlan, [sheet, start, plan], &[p, q]) => {
             let mut list = list16(plan);

@@ -107,7 +107,7 @@ fn f3_in_every_other_call_on_one_sheet() {
     answers(write, &[3], &[&plan]);
     answers(
         case(Call::CheckPlan, &[sheet, all, &plan], &[]),
-        &[2, 0],
+        &[2, 0, 2],
         &[],
     );
     for (rounds, wins) in [(1, 0), (2, 1)] {

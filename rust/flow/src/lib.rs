@@ -102,6 +102,17 @@ pub struct Pair {
     pub q: u16,
 }
 
+/// What check plan finds.
+#[derive(Clone, Copy, PartialEq, Eq, Debug)]
+pub struct Accepted {
+    /// The pair of the last entry.
+    pub pair: Pair,
+    /// The depth of the last entry: by the plan the challenger wins at the pair
+    /// in this many rounds at most. The plan that [`write_plan`] writes has the
+    /// least depth of all that end in its pair.
+    pub depth: u16,
+}
+
 /// Coarsest: makes turns by the turn list until nothing is pending, writes
 /// the kept pairs as a grid and each page's block name, two bytes a page.
 ///
@@ -267,23 +278,48 @@ pub fn test_simulation(sheet: &[u8], start: &[u8], claim: &[u8]) -> Result<bool,
 }
 
 /// Check plan: accepts a non-empty plan of sound entries and gives its last
-/// pair. An entry is 8 bytes; bytes past the last whole one count for nothing.
+/// pair and the depth of its last entry. An entry is 8 bytes; bytes past the
+/// last whole one count for nothing.
+///
+/// An entry has depth 0 for a = 0 and depth 1 where q has no a-move. Any other
+/// is one deeper than the deepest of its replies, each of which has the least
+/// depth among the earlier entries with its pair.
 ///
 /// Refuses with 1 to 6, 16 and 17 for the sheet, 8 to 10 for the start, then 14.
+///
+/// ```
+/// // Document 01's F3: pages 0, 1, 2 with the moves 0 -1-> 1 and 2 -1-> 2.
+/// let f3 = [
+///     3, 0, 1, 0, 2, 0, // three pages, one action, two moves
+///     0, 0, 1, 0, 0, 0, 0, 0, 0, 0, 2, 0, // the pages
+///     1, 0, 1, 0, 0, 0, 1, 0, 2, 0, 0, 0, // the moves
+/// ];
+/// let all = [7, 0, 0, 0, 0, 0, 0, 0].repeat(3);
+/// // Its F5: page 1 has no move, so the first two are at 1; page 0 replies with
+/// // page 1 alone, so the last is one deeper than the second.
+/// let f5 = [[0, 1, 1, 1], [2, 1, 1, 2], [2, 0, 1, 2]];
+/// let entry = |[p, q, a, t]: [u16; 4]| flow::Entry { p, q, a, t }.bytes();
+/// let pair = flow::Pair { p: 2, q: 0 };
+/// let accepted = flow::check_plan(&f3, &all, &f5.map(entry).concat());
+/// assert_eq!(accepted, Ok(flow::Accepted { pair, depth: 2 }));
+/// ```
+///
+/// A pair inside the start is not won without a move:
 ///
 /// ```
 /// let f1 = [1, 0, 0, 0, 0, 0, 0, 0, 0, 0];
 /// let all = [1, 0, 0, 0, 0, 0, 0, 0];
 /// assert_eq!(flow::check_plan(&f1, &all, &[0; 8]), Err(flow::Refusal::Unsound));
 /// ```
-pub fn check_plan(sheet: &[u8], start: &[u8], plan: &[u8]) -> Result<Pair, Refusal> {
+pub fn check_plan(sheet: &[u8], start: &[u8], plan: &[u8]) -> Result<Accepted, Refusal> {
     let result = archive::check_plan(sheet, start, plan);
     let mut packed = Packed::new("flow_check_plan", result)?;
     let pair = Pair {
         p: packed.number(16) as u16,
         q: packed.number(16) as u16,
     };
-    packed.end(pair)
+    let depth = packed.number(16) as u16;
+    packed.end(Accepted { pair, depth })
 }
 
 /// Write plan: writes the plan for the dropped pair (p, q) and gives its

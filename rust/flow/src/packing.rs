@@ -89,6 +89,24 @@ mod tests {
         }
     }
 
+    /// Three numbers of 16 bits, from bit 8 on, and nothing above bit 55.
+    #[test]
+    fn three_numbers() {
+        let numbers_of = |result| {
+            let mut packed = Packed::new("test", result)?;
+            let numbers = [16, 16, 16].map(|bits| packed.number(bits));
+            packed.end(numbers)
+        };
+        let packed = |[p, q, depth]: [u64; 3]| (p << 8) + (q << 24) + (depth << 40);
+        for numbers in [[0; 3], [3, 2, 65_281], [256, 1, 0], [0xffff; 3]] {
+            assert_eq!(numbers_of(packed(numbers)), Ok(numbers));
+        }
+        for above in [1 << 56, 1 << 63] {
+            let outcome = std::panic::catch_unwind(|| numbers_of(above + 0x300));
+            assert!(outcome.is_err(), "{above:#x}");
+        }
+    }
+
     #[test]
     fn refusals_about_no_record() {
         for &number in Refusal::NUMBERS {

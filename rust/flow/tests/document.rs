@@ -1,6 +1,6 @@
 //! The cases of document 01, through the safe calls.
 
-use flow::{Compared, Counts, Grid, Pair, Refusal};
+use flow::{Accepted, Compared, Counts, Grid, Pair, Refusal};
 use reference::lts::Lts;
 use reference::sheet;
 
@@ -8,6 +8,9 @@ use reference::sheet;
 const F3: [u8; 30] = [
     3, 0, 1, 0, 2, 0, 0, 0, 1, 0, 0, 0, 0, 0, 0, 0, 2, 0, 1, 0, 1, 0, 0, 0, 1, 0, 2, 0, 0, 0,
 ];
+
+/// The numbers of F5's plan.
+const F5: [u16; 12] = [0, 1, 1, 1, 2, 1, 1, 2, 2, 0, 1, 2];
 
 /// The end start of a sheet.
 fn end_start(sheet: &[u8]) -> Result<Grid, Refusal> {
@@ -66,11 +69,13 @@ fn f5_plan() {
     let mut plan = [9; 29];
     let written = flow::write_plan(&F3, start.bytes(), 2, 0, &mut plan);
     assert_eq!(written, Ok(3));
-    let numbers: [u16; 12] = [0, 1, 1, 1, 2, 1, 1, 2, 2, 0, 1, 2];
-    assert_eq!(plan[..24], numbers.map(u16::to_le_bytes).concat());
+    assert_eq!(plan[..24], F5.map(u16::to_le_bytes).concat());
     assert_eq!(plan[24..], [9; 5]);
-    let pair = Pair { p: 2, q: 0 };
-    assert_eq!(flow::check_plan(&F3, start.bytes(), &plan), Ok(pair));
+    let accepted = Accepted {
+        pair: Pair { p: 2, q: 0 },
+        depth: 2,
+    };
+    assert_eq!(flow::check_plan(&F3, start.bytes(), &plan), Ok(accepted));
     let short = flow::write_plan(&F3, start.bytes(), 2, 0, &mut plan[..23]);
     assert_eq!(short, Err(Refusal::Buffer));
     let kept = flow::write_plan(&F3, start.bytes(), 0, 2, &mut plan);
@@ -82,6 +87,10 @@ fn f6_hand_play() {
     let start = end_start(&F3).expect("a readable sheet");
     let wins = |rounds| flow::hand_play(&F3, start.bytes(), 2, 0, rounds);
     assert_eq!((wins(1), wins(2)), (Ok(false), Ok(true)));
+    // F5's plan, for the same pair, is as deep as the rounds that it takes.
+    let plan = F5.map(u16::to_le_bytes).concat();
+    let accepted = flow::check_plan(&F3, start.bytes(), &plan);
+    assert_eq!(accepted.map(|accepted| accepted.depth), Ok(2));
     assert_eq!(wins(7), Err(Refusal::Rounds));
     let beyond = flow::hand_play(&F3, start.bytes(), 2, 3, 1);
     assert_eq!(beyond, Err(Refusal::Page));

@@ -2,7 +2,7 @@
 
 mod sheets;
 
-use flow::{Grid, Pair, Refusal, LONGEST_SHEET};
+use flow::{Accepted, Grid, Pair, Refusal, LONGEST_SHEET};
 use reference::lts::Lts;
 use reference::prng::Prng;
 use reference::{random, sheet};
@@ -56,8 +56,11 @@ fn f3_named() -> Result<(), Refusal> {
     );
     let numbers: [u16; 12] = [0, 1, 1, 1, 2, 1, 1, 2, 2, 0, 1, 2];
     assert_eq!(plan[..], numbers.map(u16::to_le_bytes).concat());
-    let pair = Pair { p: 2, q: 0 };
-    assert_eq!(flow::check_plan(&sheet, start.bytes(), &plan), Ok(pair));
+    let accepted = Accepted {
+        pair: Pair { p: 2, q: 0 },
+        depth: 2,
+    };
+    assert_eq!(flow::check_plan(&sheet, start.bytes(), &plan), Ok(accepted));
     let wins = |rounds| flow::hand_play(&sheet, start.bytes(), 2, 0, rounds);
     assert_eq!((wins(1), wins(2)), (Ok(false), Ok(true)));
     Ok(())

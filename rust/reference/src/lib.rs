@@ -1,9 +1,10 @@
 //! Independent reference for the flow comparer.
 //!
 //! Written only from document 01 (the scope: sheets, grids, turns, plans), from
-//! requests L1 (which record is off its chain), L2 (actions by name) and L3 (old
-//! sheets to named ones and back) of document 02 and from document 004 (the base
-//! algorithm). It aims at being plainly right rather than fast.
+//! requests L1 (which record is off its chain), L2 (actions by name), L3 (old
+//! sheets to named ones and back) and L8 (the shortest plan) of document 02 and
+//! from document 004 (the base algorithm). It aims at being plainly right rather
+//! than fast.
 //! Names: a page is a [`lts::State`], a move is a [`lts::Transition`], a turn
 //! list is a schedule, the name of a block is its representative, the name of an
 //! action is its label, and a plan is a [`plans::Strategy`] made of
@@ -38,6 +39,7 @@ pub mod join;
 pub mod label_faults;
 pub mod labels;
 pub mod lts;
+pub mod plan_depths;
 pub mod plans;
 pub mod prng;
 pub mod random;

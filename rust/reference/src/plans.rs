@@ -1,10 +1,12 @@
 //! Rounds and plans. A plan is the challenger's winning strategy for a pair.
+//! Depths are those of request L8 of document 02.
 
 use crate::grid;
 use crate::lts::{Action, Lts, State, Transition};
 use crate::refusal::Refusal;
 use crate::relation::{Preorder, Relation};
 use crate::sheet;
+use std::collections::BTreeMap;
 
 /// The 16-bit numbers that carry one entry.
 pub const ENTRY_NUMBERS: usize = 4;
@@ -58,6 +60,53 @@ impl Strategy {
         !self.entries.is_empty()
             && (0..self.entries.len())
                 .all(|i| is_sound(lts, start, &self.entries[..i], &self.entries[i]))
+    }
+
+    /// The depth of each entry of an accepted plan, in order.
+    pub fn depths(&self, lts: &Lts) -> Vec<usize> {
+        let mut least = LeastDepths::default();
+        self.entries
+            .iter()
+            .map(|entry| {
+                let depth = least.depth(lts, entry).expect("a sound entry");
+                least.add(entry, depth);
+                depth
+            })
+            .collect()
+    }
+}
+
+/// The least depth of each pair that the entries so far hold.
+#[derive(Clone, Debug, Default)]
+pub struct LeastDepths {
+    of_pair: BTreeMap<(u16, u16), usize>,
+}
+
+impl LeastDepths {
+    /// The depth of the next entry: 0 for a = 0, 1 where q has no a-move, else
+    /// one more than the largest of its replies' least depths. None if a
+    /// reply's pair is not held.
+    pub fn depth(&self, lts: &Lts, entry: &Entry) -> Option<usize> {
+        if entry.a == 0 {
+            return Some(0);
+        }
+        let replies = lts.replies(entry.q.into(), entry.a.into());
+        let least: Option<Vec<usize>> = replies
+            .iter()
+            .map(|reply| self.of(entry.t, reply.target as u16))
+            .collect();
+        Some(least?.iter().max().map_or(1, |largest| largest + 1))
+    }
+
+    /// The least depth of the pair (p, q), if it is held.
+    pub fn of(&self, p: u16, q: u16) -> Option<usize> {
+        self.of_pair.get(&(p, q)).copied()
+    }
+
+    /// Takes in an entry with its depth.
+    pub fn add(&mut self, entry: &Entry, depth: usize) {
+        let least = self.of_pair.entry((entry.p, entry.q)).or_insert(depth);
+        *least = depth.min(*least);
     }
 }
 
@@ -160,16 +209,32 @@ fn beating_move(lts: &Lts, w: &Relation, p: State, q: State) -> Option<(Action, 
         .map(|step| (step.action, step.target))
 }
 
-/// Check plan: the last pair of a non-empty list of sound entries.
-pub fn check_plan(sheet: &[u8], start: &[u64], plan: &[u16]) -> Result<(u16, u16), Refusal> {
+/// What check plan gives for a plan that it accepts.
+#[derive(Clone, Copy, PartialEq, Eq, Debug)]
+pub struct Checked {
+    /// The challenger's page of the last pair.
+    pub p: u16,
+    /// The defender's page of the last pair.
+    pub q: u16,
+    /// The depth of the last entry.
+    pub depth: usize,
+}
+
+/// Check plan: the last pair of a non-empty list of sound entries, and the
+/// depth of the last one.
+pub fn check_plan(sheet: &[u8], start: &[u64], plan: &[u16]) -> Result<Checked, Refusal> {
     let lts = sheet::read(sheet)?;
     let start = grid::read_start(start, lts.states())?;
     let strategy = Strategy::read(plan);
     if !strategy.is_accepted(&lts, &start) {
         return Err(Refusal::UNSOUND);
     }
-    let last = strategy.entries[strategy.entries.len() - 1];
-    Ok((last.p, last.q))
+    let last = strategy.entries.len() - 1;
+    Ok(Checked {
+        p: strategy.entries[last].p,
+        q: strategy.entries[last].q,
+        depth: strategy.depths(&lts)[last],
+    })
 }
 
 /// Write plan: writes the plan for a dropped pair and gives its entry count.

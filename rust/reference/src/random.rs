@@ -1,7 +1,9 @@
-//! Random flows, preorders, schedules, labels and sheets for tests and cases.
+//! Random flows, preorders, schedules, plans, labels and sheets for tests and
+//! cases.
 
 use crate::labels::{Kind, LabelledLts, LABEL};
 use crate::lts::{Lts, Transition};
+use crate::plans::{Entry, LeastDepths, Rounds, Strategy};
 use crate::prng::Prng;
 use crate::relation::{Preorder, Relation};
 use crate::sheet;
@@ -133,6 +135,66 @@ pub fn schedule(rng: &mut Prng, most: usize) -> Vec<u16> {
         2 => (0..length).map(|i| i as u16).collect(),
         _ => (0..length).map(|_| rng.bits() as u16).collect(),
     }
+}
+
+/// A plan of as many sound entries, seldom a written one: pairs come again at
+/// other depths, and often the last entry is deeper than the round of its
+/// pair. It has no entries if no pair is dropped.
+pub fn sound_plan(rng: &mut Prng, lts: &Lts, start: &Preorder, entries: usize) -> Strategy {
+    let rounds = Rounds::of(lts, start);
+    let mut least = LeastDepths::default();
+    let (mut sound, mut waiting) = (Vec::new(), entries_of(lts, start));
+    let mut plan = Strategy::default();
+    for _ in 0..entries {
+        let ready = |entry: &Entry| least.depth(lts, entry).is_some();
+        sound.extend(waiting.iter().copied().filter(ready));
+        waiting.retain(|entry| !ready(entry));
+        if sound.is_empty() {
+            break;
+        }
+        let depth = |entry: &Entry| least.depth(lts, entry).expect("a sound entry");
+        let entry = match rng.below(6) {
+            0 => sound[rng.below(sound.len())],
+            // One that holds its pair at another depth than before.
+            1 | 2 => farthest(rng, &sound, |entry| {
+                let before = least.of(entry.p, entry.q);
+                before.map_or(0, |before| depth(entry).abs_diff(before))
+            }),
+            // One that is deeper than the round of its pair.
+            _ => farthest(rng, &sound, |entry| {
+                let round = rounds.falls_at(entry.p.into(), entry.q.into());
+                depth(entry) - round.expect("a dropped pair")
+            }),
+        };
+        let depth = depth(&entry);
+        least.add(&entry, depth);
+        plan.entries.push(entry);
+    }
+    plan
+}
+
+/// Of a few of the entries, the one that is the farthest.
+fn farthest(rng: &mut Prng, entries: &[Entry], far: impl Fn(&Entry) -> usize) -> Entry {
+    (0..16)
+        .map(|_| entries[rng.below(entries.len())])
+        .max_by_key(far)
+        .expect("there are a few")
+}
+
+/// All entries that are sound where earlier ones hold their replies' pairs.
+fn entries_of(lts: &Lts, start: &Preorder) -> Vec<Entry> {
+    let entry = |numbers: [usize; 4]| {
+        let [p, q, a, t] = numbers.map(|number| number as u16);
+        Entry { p, q, a, t }
+    };
+    let mut entries = Vec::new();
+    for q in 0..lts.states() {
+        let outside = (0..lts.states()).filter(|&p| !start.contains(p, q));
+        entries.extend(outside.map(|p| entry([p, q, 0, 0])));
+        let moves = lts.transitions().iter();
+        entries.extend(moves.map(|m| entry([m.source, q, m.action, m.target])));
+    }
+    entries
 }
 
 /// A label of one of several sorts, some of which often share their beginning.

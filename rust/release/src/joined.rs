@@ -68,20 +68,21 @@ impl Joined {
         Ok(())
     }
 
-    /// The plan for the pair, written by write plan and accepted by check plan.
-    pub fn plan(&self) -> Result<Vec<Entry>, String> {
+    /// The plan for the pair, written by write plan and accepted by check plan,
+    /// and the depth that check plan gives.
+    pub fn plan(&self) -> Result<(Vec<Entry>, u16), String> {
         let (pages, pair) = (usize::from(self.rules.end), self.pair());
         let mut plan = vec![0; ENTRY_BYTES * pages * pages];
         let (p, q) = (pair.p.into(), pair.q.into());
         let count = flow::write_plan(&self.sheet, self.start.bytes(), p, q, &mut plan)
             .map_err(unexpected("write plan"))?;
         plan.truncate(ENTRY_BYTES * count);
-        let checked = flow::check_plan(&self.sheet, self.start.bytes(), &plan)
+        let accepted = flow::check_plan(&self.sheet, self.start.bytes(), &plan)
             .map_err(unexpected("check plan"))?;
-        if checked != pair {
+        if accepted.pair != pair {
             return Err("check plan gives another pair than the plan is for".to_string());
         }
-        Ok(flow::entries(&plan).collect())
+        Ok((flow::entries(&plan).collect(), accepted.depth))
     }
 
     /// Does check plan accept these entries from the diagonal?

@@ -10,8 +10,16 @@ pub fn line(found: &Result<Verdict, String>) -> String {
         Ok(Verdict::Open { turns }) => {
             vec![("result", string("open")), ("turns", turns.to_string())]
         }
-        Ok(Verdict::Closed { turns, reason }) => {
-            let mut fields = vec![("result", string("closed")), ("turns", turns.to_string())];
+        Ok(Verdict::Closed {
+            turns,
+            rounds,
+            reason,
+        }) => {
+            let mut fields = vec![
+                ("result", string("closed")),
+                ("turns", turns.to_string()),
+                ("rounds", rounds.to_string()),
+            ];
             fields.extend(why(reason));
             fields
         }

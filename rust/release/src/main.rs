@@ -8,16 +8,17 @@
 //! | Status | First line | When |
 //! |---|---|---|
 //! | 0 | `open` | compare says yes: the rules can follow the site in everything |
-//! | 1 | `closed` | compare says no; the lines after it tell why |
+//! | 1 | `closed` | compare says no; the next line says in how many rounds at most the rules lose, and the lines after it tell why |
 //! | 2 | `refused` and a number | a sheet is refused |
 //! | 2 | none; one line on standard error | bad usage, a file that cannot be read, an output that cannot be written, an internal failure |
 //!
 //! Actions are told by their names, which a plain sheet's have by number. A
 //! refusal's line has its sentence, the record that it is about, if any, and
 //! the sheet. With `--entries` the plan's bare entries stand in the place of
-//! the story, with the page and action numbers of the joined flow. With
-//! `--json` the same content is one JSON object on one line, a failure's line
-//! too; it has the joined flow's action numbers beside the names.
+//! the rounds and the story, with the page and action numbers of the joined
+//! flow. With `--json` the same content is one JSON object on one line, a
+//! failure's line too; it has the joined flow's action numbers beside the
+//! names, and the rounds also with the entries.
 
 #![deny(unsafe_code)]
 

@@ -13,16 +13,22 @@ use reference::prng::Prng;
 use reference::{compare, grid, random, sheet};
 use std::collections::HashSet;
 
-/// The steps for two sheets; none where the verdict is open.
-fn steps(site: &[u8], rules: &[u8]) -> Option<Vec<Step>> {
+/// The rounds and the steps for two sheets; none where the verdict is open.
+fn closed(site: &[u8], rules: &[u8]) -> Option<(u16, Vec<Step>)> {
     match judge(site, rules, false).unwrap() {
         Verdict::Open { .. } => None,
         Verdict::Closed {
+            rounds,
             reason: Reason::Story(steps),
             ..
-        } => Some(steps),
+        } => Some((rounds, steps)),
         other => panic!("{other:?}"),
     }
+}
+
+/// The steps for two sheets; none where the verdict is open.
+fn steps(site: &[u8], rules: &[u8]) -> Option<Vec<Step>> {
+    closed(site, rules).map(|(_, steps)| steps)
 }
 
 /// The text for two sheets.
@@ -52,7 +58,8 @@ fn marked(page: usize, lts: &Lts) -> Lts {
 fn a_move_without_reply() {
     let site = Lts::of(5, 3, &[(0, 3, 4)]);
     let rules = Lts::of(2, 3, &[(0, 1, 1), (1, 3, 1)]);
-    let told = "closed\nstep 1 (site at page 0, rules at page 0): \
+    let told = "closed\nthe rules lose in 1 rounds at most\n\
+        step 1 (site at page 0, rules at page 0): \
         the site moves 0 -3-> 4; the rules at page 0 have no move 3\n";
     assert_eq!(text(&site, &rules), told);
 }
@@ -63,7 +70,7 @@ fn actions_by_name() {
     let site = Lts::of(3, 2, &[(0, 2, 1), (1, 1, 2)]);
     let site = named(&site, &["sign-out", "open\"->"]);
     let rules = Lts::of(2, 2, &[(0, 1, 1), (1, 1, 1)]);
-    let words = "closed\n\
+    let words = "closed\nthe rules lose in 2 rounds at most\n\
         step 1 (site at page 0, rules at page 0): the site moves 0 -open\"->-> 1; \
         whatever the rules answer from page 0 by action open\"->:\n\
         \x20 page 1: see step 2\n\
@@ -75,14 +82,16 @@ fn actions_by_name() {
     );
     assert_eq!(told(&site, &named(&rules, &["open\"->", "new"])), words);
     // A plain sheet's actions are named by their numbers.
-    let words = "closed\nstep 1 (site at page 0, rules at page 0): \
+    let words = "closed\nthe rules lose in 1 rounds at most\n\
+        step 1 (site at page 0, rules at page 0): \
         the site moves 0 -open\"->-> 1; the rules at page 0 have no move open\"->\n";
     assert_eq!(told(&site, &sheet::write(&rules)), words);
     let one = Lts::of(1, 1, &[(0, 1, 0)]);
     let (plain, two) = (sheet::write(&one), named(&one, &["2"]));
     let words = |label| {
         format!(
-            "closed\nstep 1 (site at page 0, rules at page 0): \
+            "closed\nthe rules lose in 1 rounds at most\n\
+            step 1 (site at page 0, rules at page 0): \
             the site moves 0 -{label}-> 0; the rules at page 0 have no move {label}\n"
         )
     };
@@ -94,7 +103,8 @@ fn actions_by_name() {
 #[test]
 fn an_end_mark() {
     let (one, marked) = (Lts::of(1, 0, &[]), marked(0, &Lts::of(1, 0, &[])));
-    let told = "closed\nstep 1 (site at page 0, rules at page 0): \
+    let told = "closed\nthe rules lose in 0 rounds at most\n\
+        step 1 (site at page 0, rules at page 0): \
         page 0 of the site has the end mark, page 0 of the rules has not\n";
     assert_eq!(text(&marked, &one), told);
     assert_eq!(text(&one, &marked), "open\n");
@@ -125,7 +135,7 @@ fn every_reply_and_no_other_page() {
         step(1, 3, Why::EndMark),
     ];
     assert_eq!(steps, expected);
-    let told = "closed\n\
+    let told = "closed\nthe rules lose in 2 rounds at most\n\
         step 1 (site at page 0, rules at page 0): the site moves 0 -1-> 1; \
         whatever the rules answer from page 0 by action 1:\n\
         \x20 page 1: see step 2\n\
@@ -137,14 +147,19 @@ fn every_reply_and_no_other_page() {
     assert_eq!(text(&site, &rules), told);
 }
 
+/// The rounds of the joined flow.
+fn rounds_of(site: &LabelledLts, rules: &LabelledLts) -> Rounds {
+    let joined = compare::join_labelled(site, rules).unwrap();
+    let joined = joined.lts();
+    Rounds::of(joined, &grid::end_start_of(joined))
+}
+
 /// Holds every step to the flows: the site's move is there, the replies are
 /// all that the rules have by its name, each is beaten by a later step; an end
 /// mark is there and not there; the pair is dropped; no pair is told twice, and
 /// none that no earlier step needs.
 fn is_right(site: &LabelledLts, rules: &LabelledLts, steps: &[Step]) {
-    let joined = compare::join_labelled(site, rules).unwrap();
-    let joined = joined.lts();
-    let rounds = Rounds::of(joined, &grid::end_start_of(joined));
+    let rounds = rounds_of(site, rules);
     let place = |label: &String| rules.labels().iter().position(|own| own == label);
     let (labels, site, rules) = (site.labels(), site.lts(), rules.lts());
     let pairs: Vec<(u16, u16)> = steps.iter().map(|step| (step.site, step.rules)).collect();
@@ -194,6 +209,52 @@ fn flows(rng: &mut Prng, sizes: Sizes) -> [LabelledLts; 2] {
     flows::labelled(rng, [site, rules])
 }
 
+/// The rounds that the steps themselves take: an end mark none, a move without
+/// reply one, any other one more than the longest of its replies.
+fn rounds_told(steps: &[Step]) -> u16 {
+    let mut rounds = vec![0; steps.len()];
+    for (at, step) in steps.iter().enumerate().rev() {
+        if let Why::Move { replies, .. } = &step.why {
+            let longest = replies.iter().map(|reply| rounds[reply.step - 1]).max();
+            rounds[at] = longest.unwrap_or(0) + 1;
+        }
+    }
+    rounds[0]
+}
+
+/// The rounds are the round in which the pair falls, and what the steps take.
+#[test]
+fn rounds_of_many_flows() {
+    let sizes = Sizes {
+        large: 0,
+        edges: 50,
+    };
+    let mut rng = Prng::new(19);
+    let mut count = [0; 6];
+    for _ in 0..4_000 {
+        let [site, rules] = match rng.chance(50) {
+            true => flows(&mut rng, sizes),
+            false => [(); 2].map(|()| LabelledLts::plain(flows::for_plans(&mut rng, sizes))),
+        };
+        let sheets = [&site, &rules].map(|flow| random::shuffled_labelled(&mut rng, flow));
+        let verdict = |entries| judge(&sheets[0], &sheets[1], entries).unwrap();
+        let Verdict::Closed { rounds, reason, .. } = verdict(false) else {
+            continue;
+        };
+        let falls = rounds_of(&site, &rules).falls_at(0, site.lts().states());
+        assert_eq!(falls, Some(rounds.into()));
+        let Reason::Story(steps) = reason else {
+            panic!("{reason:?}");
+        };
+        assert_eq!(rounds_told(&steps), rounds, "{steps:?}");
+        let same =
+            |verdict| matches!(verdict, Verdict::Closed { rounds: own, .. } if own == rounds);
+        assert!(same(verdict(true)));
+        count[usize::from(rounds).min(5)] += 1;
+    }
+    assert!(count.iter().all(|&count| count > 20), "{count:?}");
+}
+
 #[test]
 fn stories_of_many_flows() {
     let sizes = Sizes {
@@ -233,8 +294,8 @@ fn a_long_story() {
         |n: usize| -> Vec<(usize, usize, usize)> { (0..n - 1).map(|p| (p, 1, p + 1)).collect() };
     let site = Lts::of(128, 1, &path(128));
     let rules = Lts::of(127, 1, &path(127));
-    let steps = steps(&sheet::write(&site), &sheet::write(&rules)).unwrap();
-    assert_eq!(steps.len(), 127);
+    let (rounds, steps) = closed(&sheet::write(&site), &sheet::write(&rules)).unwrap();
+    assert_eq!((rounds, steps.len()), (127, 127));
     let [site, rules] = [site, rules].map(LabelledLts::plain);
     is_right(&site, &rules, &steps);
     // At the limits of pages and moves, with many replies.
@@ -359,7 +420,8 @@ fn disagreement_is_a_failure() {
     };
     assert!(joined.confirm(yes).is_err() && joined.confirm(turns).is_err());
 
-    let plan = joined.plan().unwrap();
+    let (plan, rounds) = joined.plan().unwrap();
+    assert_eq!(rounds, 2);
     assert!(story::tell(&joined, &plan).is_ok());
     let last = plan.len() - 1;
     assert!(story::tell(&joined, &plan[last..]).is_err());

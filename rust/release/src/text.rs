@@ -7,7 +7,7 @@ use crate::verdict::{Reason, Verdict};
 pub fn lines(verdict: &Verdict) -> String {
     match verdict {
         Verdict::Open { .. } => "open\n".to_string(),
-        Verdict::Closed { reason, .. } => format!("closed\n{}", why(reason)),
+        Verdict::Closed { rounds, reason, .. } => format!("closed\n{}", why(*rounds, reason)),
         Verdict::Refused { refusal, sheet } => match sheet {
             Some(sheet) => format!("{refusal} ({sheet} sheet)\n"),
             None => format!("{refusal}\n"),
@@ -15,14 +15,14 @@ pub fn lines(verdict: &Verdict) -> String {
     }
 }
 
-/// The story, or the entries one a line.
-fn why(reason: &Reason) -> String {
+/// The rounds and the story, or the entries alone, one a line.
+fn why(rounds: u16, reason: &Reason) -> String {
     match reason {
-        Reason::Story(steps) => steps
-            .iter()
-            .enumerate()
-            .map(|(at, step)| told(at + 1, step))
-            .collect(),
+        Reason::Story(steps) => {
+            let steps = (1..).zip(steps).map(|(number, step)| told(number, step));
+            let steps: String = steps.collect();
+            format!("the rules lose in {rounds} rounds at most\n{steps}")
+        }
         Reason::Entries { entries, .. } => {
             entries.iter().map(|entry| format!("{entry}\n")).collect()
         }

@@ -10,8 +10,13 @@ use std::fmt;
 pub enum Verdict {
     /// Compare's yes.
     Open { turns: u16 },
-    /// Compare's no, and why.
-    Closed { turns: u16, reason: Reason },
+    /// Compare's no, in how many rounds at most the rules lose, and why. The
+    /// rounds are the depth that check plan gives for the plan.
+    Closed {
+        turns: u16,
+        rounds: u16,
+        reason: Reason,
+    },
     /// A refusal of compare, and the sheet that it is about. None for a
     /// joined flow that is too large or has too many names.
     Refused {
@@ -48,8 +53,9 @@ impl fmt::Display for Sheet {
     }
 }
 
-/// Compares, and says why where the answer is no: by the plan's entries, or by
-/// its story. An error is a line on how the proved calls disagree.
+/// Compares, and where the answer is no says in how many rounds, and why: by the
+/// plan's entries, or by its story. An error is a line on how the proved calls
+/// disagree.
 pub fn judge(site: &[u8], rules: &[u8], entries: bool) -> Result<Verdict, String> {
     let compared = match flow::compare(site, rules) {
         Ok(compared) => compared,
@@ -61,7 +67,7 @@ pub fn judge(site: &[u8], rules: &[u8], entries: bool) -> Result<Verdict, String
     if compared.yes {
         return Ok(Verdict::Open { turns });
     }
-    let plan = joined.plan()?;
+    let (plan, rounds) = joined.plan()?;
     let reason = if entries {
         Reason::Entries {
             labels: joined.labels,
@@ -70,7 +76,11 @@ pub fn judge(site: &[u8], rules: &[u8], entries: bool) -> Result<Verdict, String
     } else {
         Reason::Story(story::tell(&joined, &plan)?)
     };
-    Ok(Verdict::Closed { turns, reason })
+    Ok(Verdict::Closed {
+        turns,
+        rounds,
+        reason,
+    })
 }
 
 /// Which sheet a refusal of compare is about. Compare reads the first sheet

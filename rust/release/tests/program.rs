@@ -7,9 +7,10 @@ use differential::{damage, flows};
 use json::Json;
 use reference::labels::{decimal, LabelledLts};
 use reference::lts::Lts;
+use reference::plans::Rounds;
 use reference::prng::Prng;
 use reference::refusal::Refusal;
-use reference::{compare, random, sheet};
+use reference::{compare, grid, random, sheet};
 use run::{Folder, Run};
 use std::ffi::OsStr;
 use std::fs;
@@ -185,7 +186,7 @@ fn open() {
 fn closed() {
     let folder = Folder::new("closed");
     let [twice, once] = twice_and_once();
-    let story = "closed\n\
+    let story = "closed\nthe rules lose in 2 rounds at most\n\
         step 1 (site at page 0, rules at page 0): the site moves 0 -1-> 1; \
         whatever the rules answer from page 0 by action 1:\n\
         \x20 page 1: see step 2\n\
@@ -196,7 +197,8 @@ fn closed() {
         "closed\n(0,2,1,1)\n(0,4,1,1)\n(1,2,1,2)\n(1,4,1,2)\n(3,2,1,4)\n(3,4,1,4)\n(0,3,1,1)\n";
     folder.run(&["--entries"], &twice, &once).is(1, entries);
     let (_, turns) = compare::compare(&twice, &once).unwrap();
-    let object = |rest: &str| format!("{{\"result\":\"closed\",\"turns\":{turns},{rest}}}\n");
+    let object =
+        |rest: &str| format!("{{\"result\":\"closed\",\"turns\":{turns},\"rounds\":2,{rest}}}\n");
     let steps = object(
         "\"steps\":[\
         {\"step\":1,\"site\":0,\"rules\":0,\"why\":\"move\",\"action\":1,\"label\":\"1\",\
@@ -223,11 +225,13 @@ fn names() {
     let folder = Folder::new("labels");
     let site = named(&Lts::of(2, 2, &[(0, 2, 1)]), &["a", "\"\\<-"]);
     let rules = named(&Lts::of(1, 2, &[(0, 1, 0)]), &["b", "\"\\<-"]);
-    let story = "closed\nstep 1 (site at page 0, rules at page 0): \
+    let story = "closed\nthe rules lose in 1 rounds at most\n\
+        step 1 (site at page 0, rules at page 0): \
         the site moves 0 -\"\\<--> 1; the rules at page 0 have no move \"\\<-\n";
     folder.run(&[], &site, &rules).is(1, story);
     let (_, turns) = compare::compare(&site, &rules).unwrap();
-    let object = |rest: &str| format!("{{\"result\":\"closed\",\"turns\":{turns},{rest}}}\n");
+    let object =
+        |rest: &str| format!("{{\"result\":\"closed\",\"turns\":{turns},\"rounds\":1,{rest}}}\n");
     let steps = object(
         r#""steps":[{"step":1,"site":0,"rules":0,"why":"move","action":2,"label":"\"\\<-","target":1,"replies":[]}]"#,
     );
@@ -392,8 +396,8 @@ fn a_closed_output() {
     }
 }
 
-/// The status, the first line and the turns are the independent program's,
-/// and the steps of text and object are the same.
+/// The status, the first line, the turns and the rounds are the independent
+/// program's, and the steps of text and object are the same.
 #[test]
 fn pairs_of_all_kinds() {
     let folder = Folder::new("pairs");
@@ -446,15 +450,29 @@ fn agree(sheets: &[Vec<u8>; 2], text: &Run, object: &Json) {
             assert_eq!((text.out.lines().next(), result), (Some(word), word));
             assert_eq!(object.field("turns").number(), turns);
             if !yes {
-                let steps = object.field("steps").array();
-                let lines: String = steps.iter().map(told).collect();
-                assert_eq!(text.out, format!("closed\n{lines}"));
-                let labels = sheets.each_ref().map(|sheet| sheet::labels(sheet).unwrap());
-                let labels = compare::joined_labels(&labels[0], &labels[1]);
-                steps.iter().for_each(|step| is_named(step, &labels));
+                closed_agrees(sheets, text, object);
             }
         }
     }
+}
+
+/// Holds the rounds and the steps of one run to the independent program.
+fn closed_agrees(sheets: &[Vec<u8>; 2], text: &Run, object: &Json) {
+    assert_eq!(object.names(), ["result", "turns", "rounds", "steps"]);
+    let [site, rules] = sheets
+        .each_ref()
+        .map(|sheet| sheet::read_labelled(sheet).unwrap());
+    let joined = compare::join_labelled(&site, &rules).unwrap();
+    let lts = joined.lts();
+    let falls = Rounds::of(lts, &grid::end_start_of(lts)).falls_at(0, site.lts().states());
+    let rounds = object.field("rounds").number();
+    assert_eq!(falls, Some(rounds));
+    let steps = object.field("steps").array();
+    let lines: String = steps.iter().map(told).collect();
+    let begin = format!("closed\nthe rules lose in {rounds} rounds at most\n");
+    assert_eq!(text.out, begin + &lines);
+    let labels = joined.labels();
+    steps.iter().for_each(|step| is_named(step, labels));
 }
 
 /// An object's step has its action's number and name.
@@ -539,7 +557,8 @@ fn the_example() {
     shown(&["draft.sheet", "rules.sheet"], 2);
     shown(&["--json", "draft.sheet", "rules.sheet"], 2);
     let run = Folder::new("example").run(&[], &by_number[0], &by_number[1]);
-    let story = "closed\nstep 1 (site at page 0, rules at page 0): \
+    let story = "closed\nthe rules lose in 1 rounds at most\n\
+        step 1 (site at page 0, rules at page 0): \
         the site moves 0 -1-> 1; the rules at page 0 have no move 1\n";
     run.is(1, story);
 }

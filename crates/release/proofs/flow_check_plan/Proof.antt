@@ -3,10 +3,10 @@ use native.Mathlib.Omega.{arith}
 use mathlib.Core.Path.{sym, ap, _∙_}
 use lib.Seq.{length-take-le}
 use Rattle.strategy.specs.Check.{checkReply}
-use Rattle.release.specs.Packed.{pairPlaces}
+use Rattle.release.specs.Packed.{checkPlaces}
 use Rattle.release.proofs.Packing.{unpack-refused}
-use Rattle.release.proofs.Replies.{packs-same, kept-same, refused-packed, pair-packed, pair-kept}
-use Rattle.release.proofs.Plans.{pair-few}
+use Rattle.release.proofs.Replies.{packs-same, kept-same, refused-packed, check-packed, check-kept}
+use Rattle.release.proofs.Plans.{check-few}
 use Rattle.release.proofs.Exports.{check-exported}
 use borrow.Author.Needs.{needs}
 use Rattle.release.proofs.flow_check_plan.Statement.{statement}
@@ -35,15 +35,23 @@ enum-known-answer-2 c = search needs
 
 mul-result : tie.Need-mul-result
 unfolding checkReply
-mul-result c = omega (arith, pair-few (c .before .before .before .check-bytes .ensures .1) (ap checkReply (c .before .answer2 .given .1)))
+mul-result c = omega (arith, check-few (c .before .before .before .check-bytes .ensures .1) (ap checkReply (c .before .answer2 .given .1)))
 
 mul-result-2 : tie.Need-mul-result-2
 unfolding checkReply
-mul-result-2 c = omega (arith, pair-few (c .before .before .before .check-bytes .ensures .1) (ap checkReply (c .before .answer2 .given .1)))
+mul-result-2 c = omega (arith, check-few (c .before .before .before .check-bytes .ensures .1) (ap checkReply (c .before .answer2 .given .1)))
+
+mul-result-3 : tie.Need-mul-result-3
+unfolding checkReply
+mul-result-3 c = omega (arith, check-few (c .before .before .before .check-bytes .ensures .1) (ap checkReply (c .before .answer2 .given .1)))
+
+add-result-2 : tie.Need-add-result-2
+unfolding checkReply
+add-result-2 c = omega (arith, check-few (c .before .before .before .check-bytes .ensures .1) (ap checkReply (c .before .answer2 .given .1)))
 
 add-result : tie.Need-add-result
 unfolding checkReply
-add-result c = omega (arith, pair-few (c .before .before .before .check-bytes .ensures .1) (ap checkReply (c .before .answer2 .given .1)))
+add-result c = omega (arith, check-few (c .before .before .before .check-bytes .ensures .1) (ap checkReply (c .before .answer2 .given .1)))
 
 returns : tie.Need-returns
 unfolding checkReply
@@ -51,18 +59,18 @@ returns c =
     let m = c .before .before .before .before .check-bytes in
     let a = c .before .before .answer .given in
     check-exported (c .before .before .before .before .before .before .load-grid .ensures .loaded) (m .ensures .0) (m .ensures .1)
-    (packs-same pairPlaces checkReply (a .1) (c .pack-refused .ensures ∙ refused-packed pairPlaces (a .0 .0)))
-    (kept-same pairPlaces checkReply (a .1) (unpack-refused pairPlaces (a .0 .0)))
+    (packs-same checkPlaces checkReply (a .1) (c .pack-refused .ensures ∙ refused-packed checkPlaces (a .0 .0)))
+    (kept-same checkPlaces checkReply (a .1) (unpack-refused checkPlaces (a .0 .0)))
 
 returns-2 : tie.Need-returns-2
 unfolding checkReply
 returns-2 c =
     let m = c .before .before .before .check-bytes in
     let a = c .before .answer2 .given in
-    let f = pair-few (m .ensures .1) (ap checkReply (a .1)) in
+    let f = check-few (m .ensures .1) (ap checkReply (a .1)) in
     check-exported (c .before .before .before .before .before .load-grid .ensures .loaded) (m .ensures .0) (m .ensures .1)
-    (packs-same pairPlaces checkReply (a .1) (pair-packed (a .0 .0) (a .0 .1 .0)))
-    (kept-same pairPlaces checkReply (a .1) (pair-kept (a .0 .0) (a .0 .1 .0) (omega (arith, f))))
+    (packs-same checkPlaces checkReply (a .1) (check-packed (a .0 .0) (a .0 .1 .0) (a .0 .1 .1 .0)))
+    (kept-same checkPlaces checkReply (a .1) (check-kept (a .0 .0) (a .0 .1 .0) (a .0 .1 .1 .0) (omega (arith, f)) (omega (arith, f))))
 
 pub flow-check-plan-spec : {M : Type 1} → statement M
 flow-check-plan-spec =
@@ -78,5 +86,7 @@ flow-check-plan-spec =
     mul-result
     mul-result-2
     add-result
+    mul-result-3
+    add-result-2
     returns
     returns-2)

@@ -9,7 +9,7 @@ use lib.ListN.{length, take, length-replicate}
 use Rattle.lts.specs.declared.Entry.{Entry}
 use Rattle.transitions.specs.Table.{statesOf, tableLts}
 use Rattle.relation.specs.Matrix.{relationOf}
-use Rattle.strategy.specs.Within.{blank}
+use Rattle.lts.specs.Strategy.{blank}
 use Rattle.strategy.proofs.Promise.{check-meets}
 use Rattle.strategy_judge.specs.Judging.{Judging, Judges}
 use Rattle.strategy_judge.proofs.Answers.{read-by, loaded-judgeable, judged-none, judged-next, judged-all, judged-sheet}
@@ -20,7 +20,7 @@ use Rattle.strategy_bytes.proofs.check_bytes.Statement.{statement}
 use Rattle.strategy_bytes.proofs.check_bytes.Tie as tie
 
 abbrev Inv-loop : tie.InvT-loop
-Inv-loop s start plan reading table judged₀ n at₀ judged at = (length judged ≡ 1027) × (at ≤ length plan / 8) × Judging (tableLts table) (relationOf (statesOf table) start) (take at (entriesOfBytes plan)) judged
+Inv-loop s start plan reading table judged₀ n at₀ judged at = (length judged ≡ 65540) × (at ≤ length plan / 8) × Judging (tableLts table) (relationOf (statesOf table) start) (take at (entriesOfBytes plan)) judged
 
 abbrev μ-loop : tie.MeasureT-loop
 μ-loop s start plan reading table judged₀ n at₀ judged at = length plan / 8 - at
@@ -32,7 +32,7 @@ load-requires : tie.Need-load-requires Inv-loop μ-loop
 load-requires c κs = read-by _ _ (c .read-inputs .ensures)
 
 loop-holds : tie.Need-loop-holds Inv-loop μ-loop
-loop-holds c = (length-replicate {A = ℕ} 1027 0, zero-le, judged-none _ _ 1027)
+loop-holds c = (length-replicate {A = ℕ} 65540 0, zero-le, judged-none _ _ 65540)
 
 entry-at-requires : tie.Need-entry-at-requires Inv-loop μ-loop
 entry-at-requires c κs = omega (arith, c .before .before .loop-test .taken)

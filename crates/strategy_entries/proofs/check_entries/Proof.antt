@@ -65,7 +65,7 @@ use Rattle.inputs.proofs.read_inputs.Symbol.{name as #inputs·read-inputs}
 use Rattle.inputs.proofs.read_inputs.Met as rd-thm
 use Rattle.strategy.specs.declared.Verdict.{Verdict}
 use Rattle.strategy.specs.Check.{checkReply, checkCall, CheckPromise}
-use Rattle.strategy.specs.Within.{blank}
+use Rattle.lts.specs.Strategy.{blank}
 use Rattle.strategy.proofs.Promise.{check-promised}
 use Rattle.strategy.proofs.Verdict as N
 use Rattle.strategy.proofs.Verdict.Laws as N′
@@ -100,7 +100,7 @@ abbrev Tables′ : RattleType
 Tables′ = Array u16 3588
 
 abbrev J : RattleType
-J = Array u64 1027
+J = Array u16 65540
 
 -- the locals' types
 abbrev word : Ty
@@ -110,7 +110,7 @@ abbrev tabTy : Ty
 tabTy = tyArray (tyInt w16) 3588
 
 abbrev judTy : Ty
-judTy = tyArray (tyInt w64) 1027
+judTy = tyArray (tyInt w16) 65540
 
 abbrev encTy : Ty
 encTy = sliceTy (tyRef (named 0) imm (tyInt w8))
@@ -132,13 +132,13 @@ judRef = tyRef erased imm judTy
 
 -- what was judged at first, and that it is an array
 abbrev zeros : List ℕ
-zeros = repeated 1027 0
+zeros = repeated 65540 0
 
 abbrev v₀ : Val
-v₀ = arrayVal (repeated 1027 (vint w64 0))
+v₀ = arrayVal (repeated 65540 (vint w16 0))
 
 zeros-are : Is J zeros (v₀ ∷ [])
-zeros-are = repeated-are u64 0 (vint w64 0) (refl, lit< tt) 1027
+zeros-are = repeated-are u16 0 (vint w16 0) (refl, lit< tt) 65540
 
 module _ {M : Type 1} (𝓤 : URA M) (H : Heap 𝓤) (A : Atoms 𝓤) where
   answer-typed : Given 𝓤 H A → (t : Verdict) (v : Val) → Is N.the-row t (v ∷ []) → T (hasTy N′.mir v) × WT v
@@ -275,7 +275,7 @@ module _ {M : Type 1} (𝓤 : URA M) (H : Heap 𝓤) (A : Atoms 𝓤) (W : Given
     abbrev to-end : ℕ → ℕ → GName → List ℕ → Ends 𝓤 H A mem′ run .Ghost
     to-end l ν δ ws = (((ν ∷ [], tt), (fullShare, tt), tt, (r, (z l δ ws, (n, tt))), (v ∷ [], (vptr l 0 ∷ [], (vint w64 n ∷ [], tt)))), tt)
 
-    goes-end : (l ν : ℕ) (δ : GName) (ws : List ℕ) → length ws ≡ 1027 → ent 𝓤 (⋆ 𝓤 H A (‵ (flft (ν ∷ []) fullShare) ∷ ‵ (Done l ν δ ws) ∷ [])) (Ends 𝓤 H A mem′ run .pre (to-end l ν δ ws))
+    goes-end : (l ν : ℕ) (δ : GName) (ws : List ℕ) → length ws ≡ 65540 → ent 𝓤 (⋆ 𝓤 H A (‵ (flft (ν ∷ []) fullShare) ∷ ‵ (Done l ν δ ws) ∷ [])) (Ends 𝓤 H A mem′ run .pre (to-end l ν δ ws))
     goes-end l ν δ ws long =
         qed W (‵ (flft (ν ∷ []) fullShare) ∷ ‵ (Done l ν δ ws) ∷ []) ∵ says ! long $ nothing ! $ move ! (1 ∷ 0 ∷ []) $ join ! $ frame ! $
         nothing ! $ owned ! usize (Is usize) (uint-makes 𝓤 H A W w64) n _ (refl, room .0) $ fjoin ! $ move ! (1 ∷ 0 ∷ []) $ fjoin ! $ owned ! E.the-row (Is E.the-row) (made 𝓤 H A) r (v ∷ []) is $ fjoin ! $ done !
@@ -296,7 +296,7 @@ module _ {M : Type 1} (𝓤 : URA M) (H : Heap 𝓤) (A : Atoms 𝓤) (W : Given
 
       -- an entry is judged
       abbrev More : List ℕ → ℕ → List ℕ → Type 0
-      More ws i zs = (length zs ≡ 1027) × Judges L S ws (getD es i blank) zs
+      More ws i zs = (length zs ≡ 65540) × Judges L S ws (getD es i blank) zs
 
       abbrev arg-turn : ℕ → GName → ℕ → GName → List ℕ → ℕ → RefT (List ℕ) × (RefT (List ℕ) × (RefT (List ℕ) × (Entry × Unit {0})))
       arg-turn k δ l ε ws i = (z k δ ts, (x₁, (z l ε ws, (getD es i blank, tt))))
@@ -305,7 +305,7 @@ module _ {M : Type 1} (𝓤 : URA M) (H : Heap 𝓤) (A : Atoms 𝓤) (W : Given
       to-turn k μ δ l ν ε ws i =
           (((μ ∷ [], (κ₁, (ν ∷ [], tt))), (fullShare, (q₁, (fullShare, tt))), tt, arg-turn k δ l ε ws i, (vptr k 0 ∷ [], (s₁ ∷ [], (vptr l 0 ∷ [], (vals (getD es i blank), tt))))), tt)
 
-      goes-turn : (k μ : ℕ) (δ : GName) (l ν : ℕ) (ε : GName) (ws : List ℕ) (i : ℕ) → length ws ≡ 1027 → Is R (getD es i blank) (vals (getD es i blank))
+      goes-turn : (k μ : ℕ) (δ : GName) (l ν : ℕ) (ε : GName) (ws : List ℕ) (i : ℕ) → length ws ≡ 65540 → Is R (getD es i blank) (vals (getD es i blank))
           → ent 𝓤 (⋆ 𝓤 H A ((‵ (flft (μ ∷ []) fullShare) ⊛ ‵ (flft κ₁ q₁) ⊛ ‵ (flft (ν ∷ []) fullShare)) ∷ (‵ (Tab k μ δ ts) ⊛ ‵ Pre ⊛ ‵ (Work l ν ε ws)) ∷ [])) (Turns 𝓤 H A mem′ run .pre (to-turn k μ δ l ν ε ws i))
       goes-turn k μ δ l ν ε ws i long has =
           qed W ((‵ (flft (μ ∷ []) fullShare) ⊛ ‵ (flft κ₁ q₁) ⊛ ‵ (flft (ν ∷ []) fullShare)) ∷ (‵ (Tab k μ δ ts) ⊛ ‵ Pre ⊛ ‵ (Work l ν ε ws)) ∷ []) ∵ says ! (loaded-judgeable (x₀ .now) (x₁ .now) read loads, long) $
@@ -373,7 +373,7 @@ module _ {M : Type 1} (𝓤 : URA M) (H : Heap 𝓤) (A : Atoms 𝓤) (W : Given
             -- [the answer; the token; what is kept of what was judged; the table's token; …]
             land ! (from ! (stop !)) (init ! 44 refl (answer-typed 𝓤 H A W t y has)) $
             move ! (1 ∷ []) $ split ! $ lft-end ! tt $ move ! (0 ∷ 3 ∷ []) $ lent-back ! tt $
-            use1 W (‵ (froom judTy l₆ 0)) (part-room 𝓤 H A W u64 (uint-makes 𝓤 H A W w64) (uint-vals w64) (uint-tells w64) tt 1027 l₆ (i .judged)) $
+            use1 W (‵ (froom judTy l₆ 0)) (part-room 𝓤 H A W u16 (uint-makes 𝓤 H A W w16) (uint-vals w16) (uint-tells w16) tt 65540 l₆ (i .judged)) $
             -- [room for _6; true; the answer; the table's token; the table; what is kept of it; …]
             move ! (3 ∷ []) $ lft-end ! tt $ move ! (0 ∷ 5 ∷ []) $ lent-back ! tt $
             use1 W (‵ (froom tabTy l₅ 0)) (part-room 𝓤 H A W u16 (uint-makes 𝓤 H A W w16) (uint-vals w16) (uint-tells w16) tt 3588 l₅ ts) $
@@ -468,12 +468,12 @@ module _ {M : Type 1} (𝓤 : URA M) (H : Heap 𝓤) (A : Atoms 𝓤) (W : Given
         -- [the encoding's token; the encoding; the start's token; the start; the plan's token; the plan; _17; …]
         land ! (from ! (stop !)) (init ! 22 refl (table-typed 𝓤 H A W ts u has)) $
         assigns ! (of-opd ! (load ! (from ! (stop !)) (look ! 22 refl))) (from ! (stop !)) (init ! 30 refl (table-typed 𝓤 H A W ts u has)) $
-        assigns ! (rep-repeated ! 1027 (lit ! tt)) (from ! (stop !)) (init ! 28 refl (array-typed u64 (uint-lawful 𝓤 H A W w64 .typed) 1027 zeros (v₀ ∷ []) zeros-are .0)) $
+        assigns ! (rep-repeated ! 65540 (lit ! tt)) (from ! (stop !)) (init ! 28 refl (array-typed u16 (uint-lawful 𝓤 H A W w16 .typed) 65540 zeros (v₀ ∷ []) zeros-are .0)) $
         assigns ! (of-opd ! (load ! (from ! (fld ! refl (stop !))) (look-in ! 34 (sub ! 1 refl (whole !))))) (from ! (stop !)) (init ! 26 refl (tt, record { fits = room .0 })) $
         assigns ! (of-opd ! (lit ! tt)) (from ! (stop !)) (init ! 24 refl (tt, record { fits = lit< tt })) $
         -- the arrays in memory, and the table is lent for a lifetime μ
         move ! (30 ∷ []) $ use1 W (‵ (partAt Tables′ fullShare ts l₅ 0)) (array-in 𝓤 H A W u16 (uint-makes 𝓤 H A W w16) (uint-vals w16) (uint-tells w16) tt 3588 l₅ ts u has) $
-        move ! (29 ∷ []) $ use1 W (‵ (partAt J fullShare zeros l₆ 0)) (array-in 𝓤 H A W u64 (uint-makes 𝓤 H A W w64) (uint-vals w64) (uint-tells w64) tt 1027 l₆ zeros v₀ zeros-are) $
+        move ! (29 ∷ []) $ use1 W (‵ (partAt J fullShare zeros l₆ 0)) (array-in 𝓤 H A W u16 (uint-makes 𝓤 H A W w16) (uint-vals w16) (uint-tells w16) tt 65540 l₆ zeros v₀ zeros-are) $
         lft-new ! tt (λ μ. move ! (2 ∷ []) $
         use1 W (later (some (λ (δ : GName). ‵ (Tab l₅ μ δ ts) ⊛ ‵ (flent (μ ∷ []) (partAt Tables′ fullShare ts l₅ 0))))) (lends-shr 𝓤 H A W Tables′ (named 0) (μ ∷ []) fullShare ts l₅ 0) $ await ! tt $ pick ! (λ δ. split ! $
         move ! (4 ∷ []) $ split ! $ keep ! (5 ∷ 4 ∷ 2 ∷ 3 ∷ 0 ∷ 7 ∷ 9 ∷ 6 ∷ 8 ∷ 10 ∷ 11 ∷ 12 ∷ 13 ∷ 14 ∷ 15 ∷ 16 ∷ 17 ∷ 18 ∷ 19 ∷ 20 ∷ 21 ∷ 22 ∷ 23 ∷ 24 ∷ 25 ∷ 26 ∷ 27 ∷ 28 ∷ 29 ∷ 30 ∷ 31 ∷ 32 ∷ 33 ∷ 34 ∷ 35 ∷ 36 ∷ 37 ∷ 38 ∷ 39 ∷ 40 ∷ 41 ∷ 42 ∷ 43 ∷ 44 ∷ []) $

@@ -47,8 +47,7 @@ use denote.Triple.Table.{entered, cited}
 use denote.Triple.Walked.{says, needs, Stays, stay-slice, stay-none-slice, stay-none, walkOf, goes-slice, goes-none-slice, goes-none, Walks, ends-at, walked, walk-meets}
 use denote.Exit.{yes}
 use Rattle.lts.specs.declared.Entry.{Entry}
-use Rattle.lts.specs.Strategy.{entriesOf}
-use Rattle.strategy.specs.Within.{blank}
+use Rattle.lts.specs.Strategy.{entriesOf, blank}
 use Rattle.strategy_entries.proofs.Element.{R, vals, tells, makes, lawful, scaled, second}
 use Rattle.strategy_entries.proofs.Copies.{filled, fill-step, fill-length}
 use Rattle.strategy.proofs.Entries.{whole-entries}

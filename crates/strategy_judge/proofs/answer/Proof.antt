@@ -4,22 +4,43 @@ use borrow.Author.Needs.{needs}
 use Rattle.strategy_judge.proofs.answer.Statement.{statement}
 use Rattle.strategy_judge.proofs.answer.Tie as tie
 
-contains-requires : tie.Need-contains-requires
-contains-requires c κs = search needs
+element-copy-out-if1 : tie.Need-element-copy-out-if1
+element-copy-out-if1 c = search needs
 
 returns : tie.Need-returns
-returns c = answer-unsound _ _ (c .before .contains .ensures) (c .if1 .taken)
+returns c = answer-unsound _ _ (c .if1 .taken)
 
-element-copy-out-t11 : tie.Need-element-copy-out-t11
-element-copy-out-t11 c = search needs
+element-copy-out-wide : tie.Need-element-copy-out-wide
+element-copy-out-wide c = search needs
 
-element-copy-out-t15 : tie.Need-element-copy-out-t15
-element-copy-out-t15 c = search needs
+wide-requires : tie.Need-wide-requires
+wide-requires c κs = search needs
+
+element-copy-out-wide-2 : tie.Need-element-copy-out-wide-2
+element-copy-out-wide-2 c = search needs
+
+wide-requires-2 : tie.Need-wide-requires-2
+wide-requires-2 c κs = search needs
+
+element-copy-out-wide-3 : tie.Need-element-copy-out-wide-3
+element-copy-out-wide-3 c = search needs
+
+wide-requires-3 : tie.Need-wide-requires-3
+wide-requires-3 c κs = search needs
 
 returns-2 : tie.Need-returns-2
-returns-2 c = answer-last _ _ (c .before .before .before .contains .ensures) (c .before .before .if1 .left)
+returns-2 c = rw (c .before .before .before .before .wide .ensures .0, c .before .before .wide2 .ensures .0, c .wide3 .ensures .0) (answer-last _ _ (c .before .before .before .before .before .before .if1 .left))
 
 pub answer-spec : {M : Type 1} → statement M
 answer-spec =
     tie.close
-    (tie.spec contains-requires returns element-copy-out-t11 element-copy-out-t15 returns-2)
+    (tie.spec
+    element-copy-out-if1
+    returns
+    element-copy-out-wide
+    wide-requires
+    element-copy-out-wide-2
+    wide-requires-2
+    element-copy-out-wide-3
+    wide-requires-3
+    returns-2)

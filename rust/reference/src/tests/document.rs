@@ -1,6 +1,6 @@
 //! F1 to F9 and the program output of document 01.
 
-use super::refused;
+use super::{accepted, refused};
 use crate::compare::compare;
 use crate::game::hand_play;
 use crate::grid;
@@ -76,8 +76,8 @@ fn f5_plan() {
     assert_eq!(write_plan(&F3, &start, 2, 0, &mut plan), Ok(3));
     assert_eq!(plan[..12], expected);
     assert_eq!(plan[12..], [9; 5]);
-    assert_eq!(check_plan(&F3, &start, &expected), Ok((2, 0)));
-    assert_eq!(check_plan(&F3, &start, &plan[..15]), Ok((2, 0)));
+    assert_eq!(check_plan(&F3, &start, &expected), accepted(2, 0, 2));
+    assert_eq!(check_plan(&F3, &start, &plan[..15]), accepted(2, 0, 2));
     assert_eq!(check_plan(&F3, &start, &plan), refused(14));
     assert_eq!(check_plan(&F3, &start, &[]), refused(14));
     assert_eq!(check_plan(&F3, &start, &expected[..3]), refused(14));

@@ -1,14 +1,15 @@
 //! Property tests with a fixed seed: the turn rule against the two other
-//! ways to the coarsest simulation, and plans and play against the rounds.
+//! ways to the coarsest simulation, and plans, their depths and play against
+//! the rounds.
 
-use super::refused;
+use super::{accepted, refused};
 use crate::base;
 use crate::compare;
 use crate::fixpoint;
-use crate::game::Game;
+use crate::game::{hand_play, Game};
 use crate::grid;
 use crate::lts::Lts;
-use crate::plans::{check_plan, write_plan, Rounds, Strategy};
+use crate::plans::{check_plan, write_plan, Checked, LeastDepths, Rounds, Strategy};
 use crate::prng::Prng;
 use crate::random;
 use crate::refusal::Refusal;
@@ -147,7 +148,7 @@ fn written_plans_are_accepted() {
                         let end = 4 * count + rng.below(4);
                         assert_eq!(
                             check_plan(&sheet, &words, &plan[..end.min(plan.len())]),
-                            Ok((p as u16, q as u16))
+                            accepted(p as u16, q as u16, own)
                         );
                         let mut short = vec![77; 4 * count - 1];
                         assert_eq!(
@@ -185,12 +186,106 @@ fn accepted_plans_are_about_dropped_pairs() {
         let strategy = Strategy::read(&numbers);
         if strategy.is_accepted(&lts, &start) {
             accepted += 1;
-            for entry in &strategy.entries {
-                assert!(rounds.falls_at(entry.p.into(), entry.q.into()).is_some());
+            for (entry, depth) in strategy.entries.iter().zip(strategy.depths(&lts)) {
+                let round = rounds.falls_at(entry.p.into(), entry.q.into());
+                assert!(round.is_some_and(|round| round <= depth));
             }
         }
     }
     assert!(accepted > 100);
+}
+
+#[test]
+fn no_accepted_plan_is_less_deep_than_the_written_one() {
+    let mut rng = Prng::new(12);
+    let (mut as_deep, mut deeper) = (0, 0);
+    for _ in 0..800 {
+        let (lts, start) = sample(&mut rng, 8);
+        let (sheet, words) = (sheet::write(&lts), grid::write(start.relation()));
+        let rounds = Rounds::of(&lts, &start);
+        let entries = rng.between(1, 20);
+        let numbers = random::sound_plan(&mut rng, &lts, &start, entries).numbers();
+        // Each entry is the last one of the plan up to it.
+        for to in (4..=numbers.len()).step_by(4) {
+            let Checked { p, q, depth } = check_plan(&sheet, &words, &numbers[..to]).unwrap();
+            assert_eq!([p, q], numbers[to - 4..to - 2]);
+            let round = rounds.falls_at(p.into(), q.into()).unwrap();
+            assert!(round <= depth);
+            let written = rounds.strategy(&lts, p.into(), q.into()).unwrap();
+            let checked = check_plan(&sheet, &words, &written.numbers());
+            assert_eq!(checked, accepted(p, q, round));
+            as_deep += usize::from(round == depth);
+            deeper += usize::from(round < depth);
+            // The challenger wins in as many rounds as the plan is deep.
+            if let Ok(k @ 0..=6) = u16::try_from(depth) {
+                assert_eq!(hand_play(&sheet, &words, p, q, k), Ok(true));
+            }
+        }
+    }
+    assert!(as_deep > 1_000 && deeper > 1_000);
+}
+
+/// The entries of a plan in a random order in which each is sound, but for
+/// the last one, which stays.
+fn reordered(rng: &mut Prng, lts: &Lts, plan: &Strategy) -> Strategy {
+    let mut rest = plan.entries.clone();
+    let last = rest.pop().expect("a last entry");
+    let mut least = LeastDepths::default();
+    let mut entries = Vec::new();
+    while !rest.is_empty() {
+        rng.shuffle(&mut rest);
+        let mut places = rest.iter().enumerate();
+        let (place, depth) = places
+            .find_map(|(i, entry)| Some((i, least.depth(lts, entry)?)))
+            .expect("a sound entry");
+        let entry = rest.swap_remove(place);
+        least.add(&entry, depth);
+        entries.push(entry);
+    }
+    entries.push(last);
+    Strategy { entries }
+}
+
+#[test]
+fn written_entries_are_as_deep_in_another_order() {
+    // A pair has one entry alone, so that the order makes no difference.
+    let mut rng = Prng::new(13);
+    let mut others = 0;
+    for _ in 0..1_500 {
+        let (lts, start) = sample(&mut rng, 7);
+        let rounds = Rounds::of(&lts, &start);
+        let pairs = Relation::full(lts.states());
+        let latest = pairs.pairs().max_by_key(|&(p, q)| rounds.falls_at(p, q));
+        let (p, q) = latest.expect("there are pairs");
+        let Some(written) = rounds.strategy(&lts, p, q) else {
+            continue;
+        };
+        let other = reordered(&mut rng, &lts, &written);
+        others += usize::from(other != written);
+        assert!(other.is_accepted(&lts, &start));
+        for (entry, depth) in other.entries.iter().zip(other.depths(&lts)) {
+            let round = rounds.falls_at(entry.p.into(), entry.q.into());
+            assert_eq!(round, Some(depth));
+        }
+    }
+    assert!(others > 400);
+}
+
+#[test]
+fn hand_play_is_won_exactly_from_the_round_on() {
+    let mut rng = Prng::new(14);
+    for _ in 0..100 {
+        let (lts, start) = sample(&mut rng, 6);
+        let (sheet, words) = (sheet::write(&lts), grid::write(start.relation()));
+        let rounds = Rounds::of(&lts, &start);
+        for (p, q) in Relation::full(lts.states()).pairs() {
+            for k in 0..=6 {
+                let falls = rounds.falls_at(p, q).is_some_and(|round| round <= k);
+                let won = hand_play(&sheet, &words, p as u16, q as u16, k as u16);
+                assert_eq!(won, Ok(falls));
+            }
+        }
+    }
 }
 
 #[test]

@@ -183,7 +183,8 @@ impl Case {
             4 | 14 => self.run_coarsest(),
             5 | 10 | 12 => {
                 let result = check_plan(&f[0], &words(&f[1]), &numbers(&f[2]));
-                Answer::of(result.map(|(p, q)| vec![p.into(), q.into()]), 2, vec![])
+                let values = result.map(|c| vec![c.p.into(), c.q.into(), c.depth]);
+                Answer::of(values, 3, vec![])
             }
             6 | 11 | 13 => {
                 let mut plan = numbers(&f[2]);

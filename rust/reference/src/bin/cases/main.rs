@@ -8,6 +8,7 @@ mod case;
 mod chains;
 mod coarsest;
 mod convert;
+mod depths;
 mod games;
 mod labels;
 mod make;
@@ -23,7 +24,7 @@ use std::path::Path;
 use std::process::ExitCode;
 
 /// The most bytes of the two files together.
-const MOST_BYTES: usize = 2_700_000;
+const MOST_BYTES: usize = 2_750_000;
 
 /// The refusals that each operation meets, 0 for none.
 const REFUSALS: [(u8, &[u8]); 18] = [
@@ -59,6 +60,7 @@ fn cases() -> Vec<Case> {
         relations::cases(),
         coarsest::cases(),
         plans::cases(),
+        depths::cases(),
         games::cases(),
         chains::cases(),
         labels::cases(),
