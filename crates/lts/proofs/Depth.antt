@@ -274,8 +274,8 @@ module _ (L : Lts) (wf : WellFormed L) (preorder : Rel) where
       → Inv (reverseAux xs []) (measured L [] xs) × SoundAt (reverseAux xs []) e
   inv-before xs e ys t = before (λ _. Unit {0}) Inv inv-step [] [] xs e ys inv-begin t (every-unit xs)
 
-  pub entry-sound : (xs : List Entry) (e : Entry) (ys : List Entry) → T (allSound L preorder [] (xs ++ (e ∷ ys))) → SoundAt (reverseAux xs []) e
-  entry-sound xs e ys t = inv-before xs e ys t .1
+  pub sound-before : (xs : List Entry) (e : Entry) (ys : List Entry) → T (allSound L preorder [] (xs ++ (e ∷ ys))) → SoundAt (reverseAux xs []) e
+  sound-before xs e ys t = inv-before xs e ys t .1
 
   -- and before its last
   record Last (es : List Entry) : Type 0 where

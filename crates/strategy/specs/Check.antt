@@ -1,5 +1,5 @@
--- The call check plan: its reply (document 01, "Plans" and the table of refusals; the depth: document 02, L8), and what is promised of it. A plan is a list of entries,
--- however it is carried: as numbers, as structs or as bytes.
+-- The call check plan: its reply (document 01, "Plans" and the table of refusals; the depth: document 02, L8), and what is promised of it.
+-- A plan is a list of entries, however it is carried: as numbers, as structs or as bytes.
 use Prim.Native.Nat.{ℕ, _+_, _*_, _-_, _≤_, _<_}
 use mathlib.Core.Path.{_≡_}
 use mathlib.Core.Logic.{_↔_}

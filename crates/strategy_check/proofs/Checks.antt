@@ -45,8 +45,8 @@ sound-below table start xs e p q a t ok h =
     (ltb-true _ _ (and-fst (ltb p (statesOf table)) (ltb q (statesOf table)) both), ltb-true _ _ (and-snd (ltb p (statesOf table)) (ltb q (statesOf table)) both), low)
 
 module _ (L : Lts) (start : Rel) (xs : List ℕ) (e : ℕ) (marks : List ℕ) where
-  pub marking-unsound : {other : List ℕ} → soundAt L start xs e ≡ false → Marking L start xs e marks 0 other
-  marking-unsound f = record { unsound = λ _. refl; own = λ t. absurd (clash t f); pair = λ t. absurd (clash t f) }
+  pub marking-unsound : soundAt L start xs e ≡ false → Marking L start xs e marks 0 marks
+  marking-unsound f = record { unsound = λ _. (refl, refl); own = λ t. absurd (clash t f); pair = λ t. absurd (clash t f) }
 
   pub marking-sound : {mark p q a t : ℕ} {other : List ℕ} → soundAt L start xs e ≡ true
       → p ≡ getD xs (4 * e) 0 → q ≡ getD xs (4 * e + 1) 0 → a ≡ getD xs (4 * e + 2) 0 → t ≡ getD xs (4 * e + 3) 0
@@ -62,17 +62,17 @@ module _ (L : Lts) (start : Rel) (xs : List ℕ) (e : ℕ) (marks : List ℕ) wh
 -- ---- the mark of a strategy
 
 module _ (L : Lts) (start : Rel) (es : List Entry) {mark : ℕ} (is : mark ≡ strategyMark L start es) where
-  pub mark-none : mark ≡ 0 → false ≡ accepted L start es
+  pub unaccepted-mark : mark ≡ 0 → false ≡ accepted L start es
   unfolding strategyMark
-  mark-none z = go (accepted L start es) is
+  unaccepted-mark z = go (accepted L start es) is
     where
       go : (b : Bool) → mark ≡ cond b (suc (depthOf L es)) 0 → false ≡ b
       go true e = absurd (omega (arith, e, z))
       go false e = refl
 
-  pub mark-some : (mark ≡ 0 → ⊥) → (true ≡ accepted L start es) × (mark - 1 ≡ depthOf L es)
+  pub accepted-mark : (mark ≡ 0 → ⊥) → (true ≡ accepted L start es) × (mark - 1 ≡ depthOf L es)
   unfolding strategyMark
-  mark-some h = go (accepted L start es) is
+  accepted-mark h = go (accepted L start es) is
     where
       go : (b : Bool) → mark ≡ cond b (suc (depthOf L es)) 0 → (true ≡ b) × (mark - 1 ≡ depthOf L es)
       go true e = (refl, omega (arith, e))
@@ -113,7 +113,7 @@ module _ (L : Lts) (start : Rel) (xs : List ℕ) where
 
     module _ (wf : WellFormed L) (few : L .states ≤ 256) (loop : T (reflexive L start)) (h : mark ≡ 0 → ⊥) where
       here : soundAt L start xs e ≡ true
-      here = ⊎-elim (λ t. t) (λ f. absurd (h (step .unsound f))) (either (soundAt L start xs e))
+      here = ⊎-elim (λ t. t) (λ f. absurd (h (step .unsound f .0))) (either (soundAt L start xs e))
 
       longer : listBelow (e + 1) (entryOf xs) ≡ es ++ entry ∷ []
       unfolding listBelow

@@ -10,7 +10,7 @@ use Rattle.lts.specs.Bounded.{_⇒_, anyBelow, allBelow, listBelow}
 use Rattle.lts.specs.System.{Rel, Lts, allStates}
 use Rattle.lts.specs.declared.Entry.{Entry}
 use Rattle.lts.specs.Strategy.{holds, sound, allSound, accepted, entriesOf}
-use Rattle.strategy_depth.specs.Marks.{repliesIn}
+use Rattle.lts.specs.Game.{defenderLoses}
 use Rattle.strategy_check.specs.Entries.{entryOf, holdsPair, heldBefore, repliesHeld, outside, soundOver, soundAt}
 
 -- the entries f 0 .. f (e - 1), the last first, before those of `earlier`
@@ -80,7 +80,7 @@ entries-below (p ∷ q ∷ a ∷ []) = refl
 
 module _ (L : Lts) (start : Rel) (xs : List ℕ) where
   sound-at : (e : ℕ) → sound L start (entriesUpTo [] (entryOf xs) e) (entryOf xs e) ≡ soundAt L start xs e
-  unfolding sound soundAt soundOver outside repliesHeld repliesIn entryOf
+  unfolding sound soundAt soundOver outside repliesHeld defenderLoses entryOf
   sound-at e =
       let x = entryOf xs e in
       ap (λ (H : Rel). ltb (x .p) (L .states) && ltb (x .q) (L .states) && (outside start (x .p) (x .q) (x .a) (x .t) || L .transition (x .p) (x .a) (x .t) && allStates L (λ r. L .transition (x .q) (x .a) r ⇒ H (x .t) r)))

@@ -10,11 +10,11 @@ use borrow.Author.Tests.{eq-eqb, ne-eqb, lt-ltb, le-ltb}
 use Rattle.lts.specs.Bounded.{_⇒_}
 use Rattle.lts.specs.System.{Rel, Lts, allStates}
 use Rattle.lts.proofs.Below.{all-yes, all-not, any-yes, any-no}
+use Rattle.lts.specs.Game.{defenderLoses}
 use Rattle.transitions.specs.Table.{statesOf, offsetAt, actionAt, targetAt, tableLts, Formed}
 use Rattle.transitions.proofs.Entries.{InRow, Between, row-below, row-transition, transition-row}
 use Rattle.relation.specs.Matrix.{relationOf}
 use Rattle.transitions.proofs.Lookups.{no-target}
-use Rattle.strategy_depth.specs.Marks.{repliesIn}
 use Rattle.strategy_check.specs.Entries.{holdsPair, heldBefore, repliesHeld, outside, soundOver, soundAt}
 
 implies-of : (a b : Bool) → (a ≡ true → b ≡ true) → (a ⇒ b) ≡ true
@@ -53,7 +53,7 @@ module _ (table : List ℕ) (ok : Formed table) (q : ℕ) (hq : q < statesOf tab
   -- all of the row covered, and one of it not
   pub replies-held : (xs : List ℕ) (e a t : ℕ) → Between (λ i. covers table xs e a t i ≡ true) (offsetAt table q) (offsetAt table (q + 1))
       → true ≡ repliesHeld L xs e q a t
-  unfolding repliesHeld repliesIn allStates covers tableLts
+  unfolding repliesHeld defenderLoses allStates covers tableLts
   replies-held xs e a t h =
       all-yes (statesOf table) _ (λ r l. implies-of (L .transition q a r) (heldBefore xs e t r) (λ u.
       let i = transition-row table ok q hq a r u in
@@ -61,7 +61,7 @@ module _ (table : List ℕ) (ok : Formed table) (q : ℕ) (hq : q < statesOf tab
 
   pub reply-open : (xs : List ℕ) (e a t i : ℕ) → InRow table ok q i → actionAt table i ≡ a
       → heldBefore xs e t (targetAt table i) ≡ false → false ≡ repliesHeld L xs e q a t
-  unfolding repliesHeld repliesIn allStates tableLts
+  unfolding repliesHeld defenderLoses allStates tableLts
   reply-open xs e a t i r ea h =
       all-not (statesOf table) _ (targetAt table i) (ok .target i (row-below table ok q hq i (r .1)))
       (rw (row-transition table ok q hq i r ea refl, h))

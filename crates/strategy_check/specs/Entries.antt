@@ -10,7 +10,8 @@ use Rattle.lts.specs.System.{Rel, Lts}
 use Rattle.lts.specs.declared.Entry.{Entry}
 use Rattle.lts.specs.Strategy.{accepted}
 use Rattle.lts.specs.Depth.{depthOf}
-use Rattle.strategy_depth.specs.Marks.{markOf, lowered, repliesIn, entryMark}
+use Rattle.lts.specs.Game.{defenderLoses}
+use Rattle.strategy_depth.specs.Marks.{markOf, lowered, entryMark}
 
 -- entry number e of the list: four numbers, p, q, a, t
 unfoldable pub entryOf : List ℕ → ℕ → Entry
@@ -26,7 +27,7 @@ heldBefore xs e t r = anyBelow e (holdsPair xs t r)
 
 -- for each transition q, a, r an entry before number e holds (t, r)
 unfoldable pub repliesHeld : Lts → List ℕ → ℕ → ℕ → ℕ → ℕ → Bool
-repliesHeld L xs e q a t = repliesIn L (heldBefore xs e) q a t
+repliesHeld L xs e q a t = defenderLoses L (heldBefore xs e) q a t
 
 -- a = t = 0 and (p, q) is outside the starting preorder
 unfoldable pub outside : Rel → ℕ → ℕ → ℕ → ℕ → Bool
@@ -40,10 +41,10 @@ soundOver L start xs e p q a t =
 unfoldable pub soundAt : Lts → Rel → List ℕ → ℕ → Bool
 soundAt L start xs e = soundOver L start xs e (getD xs (4 * e) 0) (getD xs (4 * e + 1) 0) (getD xs (4 * e + 2) 0) (getD xs (4 * e + 3) 0)
 
--- Entry e is checked, and its pair marked: an unsound one gets 0. A sound one gets one more than its depth by the marks of the pairs so far,
+-- Entry e is checked, and its pair marked: an unsound one gets 0, and the marks stay. A sound one gets one more than its depth by the marks of the pairs so far,
 -- and its pair's mark is lowered to that.
 pub record Marking (L : Lts) (start : Rel) (xs : List ℕ) (e : ℕ) (marks : List ℕ) (mark : ℕ) (other : List ℕ) : Type 0 where
-  pub unsound : soundAt L start xs e ≡ false → mark ≡ 0
+  pub unsound : soundAt L start xs e ≡ false → (mark ≡ 0) × (other ≡ marks)
   pub own : soundAt L start xs e ≡ true → mark ≡ entryMark L (markOf marks) (entryOf xs e .q) (entryOf xs e .a) (entryOf xs e .t)
   pub pair : soundAt L start xs e ≡ true
       → other ≡ set marks (256 * entryOf xs e .p + entryOf xs e .q) (lowered (markOf marks (entryOf xs e .p) (entryOf xs e .q)) mark % 65536)

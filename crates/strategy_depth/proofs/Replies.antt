@@ -12,9 +12,10 @@ use Rattle.lts.specs.Bounded.{_⇒_, largestBelow}
 use Rattle.lts.specs.System.{Lts, allStates}
 use Rattle.lts.proofs.Below.{all-yes, all-not}
 use Rattle.lts.proofs.Count.{largest-least, largest-most}
+use Rattle.lts.specs.Game.{defenderLoses}
 use Rattle.transitions.specs.Table.{statesOf, offsetAt, actionAt, targetAt, tableLts, Formed}
 use Rattle.transitions.proofs.Entries.{Between, between-none, between-more, row-below, row-transition, transition-row}
-use Rattle.strategy_depth.specs.Marks.{marked, replyMark, repliesIn, replyDepth, entryMark}
+use Rattle.strategy_depth.specs.Marks.{marked, replyMark, replyDepth, entryMark}
 
 -- ---- the mark of a transition
 
@@ -50,7 +51,7 @@ module _ (L : Lts) (marks : ℕ → ℕ → ℕ) (q a t : ℕ) where
 
   pub depth-is : (c : ℕ) → 1 ≤ c → ((r : ℕ) → L .transition q a r ≡ true → (0 < marks t r) × (marks t r ≤ c))
       → (c ≡ 1) ⊎ ((r : ℕ) × (r < L .states) × (L .transition q a r ≡ true) × (c ≡ marks t r)) → c ≡ replyDepth L marks q a t
-  unfolding replyDepth repliesIn allStates
+  unfolding replyDepth defenderLoses allStates
   depth-is c some each taken =
       let all : allStates L (λ r. L .transition q a r ⇒ not (eqb (marks t r) 0)) ≡ true =
       sym (all-yes (L .states) _ (λ r _. implied (L .transition q a r) (not (eqb (marks t r) 0)) (λ m. ap not (ne-eqb (marks t r) 0 (λ z. omega (arith, z, each r m .0)))))) in
@@ -64,23 +65,23 @@ module _ (L : Lts) (marks : ℕ → ℕ → ℕ) (q a t : ℕ) where
       low (inr r) = omega (arith, r .3, most, some, own-is (r .0) (r .2), largest-least (L .states) own (r .0) (r .1))
 
   pub depth-none : (r : ℕ) → r < L .states → L .transition q a r ≡ true → marks t r ≡ 0 → 0 ≡ replyDepth L marks q a t
-  unfolding replyDepth repliesIn allStates
+  unfolding replyDepth defenderLoses allStates
   depth-none r l m z =
       let none : allStates L (λ r. L .transition q a r ⇒ not (eqb (marks t r) 0)) ≡ false = sym (all-not (L .states) _ r l (rw (m, z))) in
       sym (ap (λ (b : Bool). cond b (max 1 (largestBelow (L .states) own)) 0) none)
 
   -- it is 0 exactly where a reply has no mark
-  pub depth-unmarked : replyDepth L marks q a t ≡ 0 → repliesIn L (marked marks) q a t ≡ false
+  pub depth-unmarked : replyDepth L marks q a t ≡ 0 → defenderLoses L (marked marks) q a t ≡ false
   unfolding replyDepth
-  depth-unmarked z = go (repliesIn L (marked marks) q a t) z
+  depth-unmarked z = go (defenderLoses L (marked marks) q a t) z
     where
       go : (b : Bool) → cond b (max 1 (largestBelow (L .states) own)) 0 ≡ 0 → b ≡ false
       go true e = absurd (omega (arith, e))
       go false e = refl
 
-  pub depth-marked : (replyDepth L marks q a t ≡ 0 → ⊥) → repliesIn L (marked marks) q a t ≡ true
+  pub depth-marked : (replyDepth L marks q a t ≡ 0 → ⊥) → defenderLoses L (marked marks) q a t ≡ true
   unfolding replyDepth
-  depth-marked h = go (repliesIn L (marked marks) q a t) h
+  depth-marked h = go (defenderLoses L (marked marks) q a t) h
     where
       go : (b : Bool) → (cond b (max 1 (largestBelow (L .states) own)) 0 ≡ 0 → ⊥) → b ≡ true
       go true k = refl

@@ -18,7 +18,7 @@ use Rattle.lts.specs.Strategy.{holds, sound, allSound}
 use Rattle.lts.specs.Depth.{Measured, leastDepth, depthOver, measure, measured, depthOf}
 use Rattle.lts.proofs.Below.{clash, bool-iff, and-fst, and-snd, true-T, T-true}
 use Rattle.lts.proofs.Count.{largest-some}
-use Rattle.lts.proofs.Depth.{reply, depth-zero, depth-suc, depth-reply, measured-snoc, depth-snoc, sound-cases, sound-states, entry-sound, replies-measured, entry-most}
+use Rattle.lts.proofs.Depth.{reply, depth-zero, depth-suc, depth-reply, measured-snoc, depth-snoc, sound-cases, sound-states, sound-before, replies-measured, entry-most}
 use Rattle.rows.proofs.Rows.{getD-zeros}
 use Rattle.strategy_depth.specs.Marks.{markOf, lowered, markAfter, Marked, entryMark}
 use Rattle.strategy_depth.proofs.Marks.{lowered-most, after-least, after-holds}
@@ -55,7 +55,7 @@ module _ (L : Lts) (wf : WellFormed L) (few : L .states ≤ 256) (start : Rel) (
   depth = depthOver L (leastDepth ms) e
 
   sound-here : T (sound L start (reverseAux es []) e)
-  sound-here = entry-sound L wf start es e [] sounds
+  sound-here = sound-before L wf start es e [] sounds
 
   pub pair-states : (e .p < 256) × (e .q < 256)
   pair-states = let l = sound-states L wf start (reverseAux es []) e sound-here in (omega (arith, l .0, few), omega (arith, l .1, few))

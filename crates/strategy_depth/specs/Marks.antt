@@ -2,14 +2,15 @@
 -- the least depth of those that have it.
 use Prim.Native.Nat.{ℕ, suc, _+_, _*_, _<_, min, max}
 use mathlib.Core.Path.{_≡_}
-use mathlib.Core.Bool.{Bool, cond, not, _&&_}
+use mathlib.Core.Bool.{cond, not, _&&_}
 use mathlib.Core.List.{List, [], _∷_}
 use lib.Dec.{eqb}
 use lib.ListN.{getD}
 use Rattle.lts.specs.declared.Entry.{Entry}
-use Rattle.lts.specs.Bounded.{_⇒_, largestBelow}
-use Rattle.lts.specs.System.{Rel, Lts, allStates}
+use Rattle.lts.specs.Bounded.{largestBelow}
+use Rattle.lts.specs.System.{Rel, Lts}
 use Rattle.lts.specs.Depth.{Measured, measured}
+use Rattle.lts.specs.Game.{defenderLoses}
 use Rattle.transitions.specs.Table.{actionAt, targetAt}
 
 -- the mark of the pair (p, q), in a list of them
@@ -37,13 +38,9 @@ replyMark table marks a t i = cond (eqb (actionAt table i) a) (marks t (targetAt
 abbrev pub marked : (ℕ → ℕ → ℕ) → Rel
 marked marks p q = not (eqb (marks p q) 0)
 
--- for each transition q, a, r the pair (t, r) is in M
-unfoldable pub repliesIn : Lts → Rel → ℕ → ℕ → ℕ → Bool
-repliesIn L M q a t = allStates L (λ r. L .transition q a r ⇒ M t r)
-
 -- the largest mark of a reply, and at least 1; 0 where a reply has none
 unfoldable pub replyDepth : Lts → (ℕ → ℕ → ℕ) → ℕ → ℕ → ℕ → ℕ
-replyDepth L marks q a t = cond (repliesIn L (marked marks) q a t) (max 1 (largestBelow (L .states) (λ r. cond (L .transition q a r) (marks t r) 0))) 0
+replyDepth L marks q a t = cond (defenderLoses L (marked marks) q a t) (max 1 (largestBelow (L .states) (λ r. cond (L .transition q a r) (marks t r) 0))) 0
 
 -- the mark of an entry: one more than its depth by the marks
 unfoldable pub entryMark : Lts → (ℕ → ℕ → ℕ) → ℕ → ℕ → ℕ → ℕ

@@ -11,12 +11,13 @@ use Rattle.lts.specs.declared.Entry.{Entry}
 use Rattle.lts.specs.Bounded.{_⇒_}
 use Rattle.lts.specs.System.{Rel, Lts, WellFormed, allStates, reflexive}
 use Rattle.lts.proofs.Below.{either, true-T, and-fst, and-snd, all-cong}
+use Rattle.lts.specs.Game.{defenderLoses}
 use Rattle.rows.specs.Rows.{inRow, rowOf}
 use Rattle.rows.proofs.Rows.{inRow-of}
 use Rattle.transitions.specs.Table.{statesOf, tableLts, Formed}
 use Rattle.transitions.proofs.Entries.{table-formed}
 use Rattle.relation.specs.Matrix.{relationOf, Matrix}
-use Rattle.strategy_depth.specs.Marks.{marked, repliesIn, replyDepth, entryMark}
+use Rattle.strategy_depth.specs.Marks.{marked, replyDepth, entryMark}
 use Rattle.strategy_depth.proofs.Replies.{depth-marked, depth-unmarked, entry-outside, entry-moved, entry-some}
 use Rattle.strategy_check.specs.Entries.{outside}
 use Rattle.strategy_judge.specs.Judging.{soundOn, markOver, Judgeable}
@@ -38,17 +39,17 @@ module _ (t : List ℕ) (ok : Formed t) (marks : ℕ → ℕ → ℕ) (p q a x :
     leads-in : L .transition p a x ≡ b
     leads-in = sym (f ∙ ap (λ (r : List ℕ). inRow r x) e ∙ inRow-of 4 (L .transition p a) x (omega (arith, low, ok .states)))
 
-    pub no-transition : not b ≡ true → 0 ≡ tested (L .transition p a x) (repliesIn L (marked marks) q a x)
-    no-transition h = sym (ap (λ (c : Bool). tested c (repliesIn L (marked marks) q a x)) (leads-in ∙ not-true _ h))
+    pub no-transition : not b ≡ true → 0 ≡ tested (L .transition p a x) (defenderLoses L (marked marks) q a x)
+    no-transition h = sym (ap (λ (c : Bool). tested c (defenderLoses L (marked marks) q a x)) (leads-in ∙ not-true _ h))
 
     module _ (h : not b ≡ false) {d : ℕ} (w : d ≡ replyDepth L marks q a x) where
       leads : L .transition p a x ≡ true
       leads = leads-in ∙ not-false _ h
 
-      pub no-mark : d ≡ 0 → 0 ≡ tested (L .transition p a x) (repliesIn L (marked marks) q a x)
+      pub no-mark : d ≡ 0 → 0 ≡ tested (L .transition p a x) (defenderLoses L (marked marks) q a x)
       no-mark z = sym (ap₂ tested leads (depth-unmarked L marks q a x (sym w ∙ z)))
 
-      pub replies-marked : (d ≡ 0 → ⊥) → d + 1 ≡ tested (L .transition p a x) (repliesIn L (marked marks) q a x)
+      pub replies-marked : (d ≡ 0 → ⊥) → d + 1 ≡ tested (L .transition p a x) (defenderLoses L (marked marks) q a x)
       replies-marked k =
           let named = table-formed t ok .action p a x (true-T _ leads) in
           entry-moved L marks q a x (λ z. omega (arith, z, named .0)) w ∙ sym (ap₂ tested leads (depth-marked L marks q a x (λ z. k (w ∙ z))))
@@ -83,20 +84,20 @@ module _ (t words : List ℕ) (M : Rel) (e : Entry) {n : ℕ} (size : n ≡ stat
 
     pub sound-outside : {b : Bool} → b ≡ outside (relationOf n words) (e .p) (e .q) (e .a) (e .t) → b ≡ true → true ≡ soundOn S start M e
     unfolding soundOn tableLts
-    sound-outside h u = sym (states-in _ ∙ ap (λ (b : Bool). b || S .transition (e .p) (e .a) (e .t) && repliesIn S M (e .q) (e .a) (e .t)) (outside-is h ∙ u))
+    sound-outside h u = sym (states-in _ ∙ ap (λ (b : Bool). b || S .transition (e .p) (e .a) (e .t) && defenderLoses S M (e .q) (e .a) (e .t)) (outside-is h ∙ u))
 
     module _ {b : Bool} (h : b ≡ outside (relationOf n words) (e .p) (e .q) (e .a) (e .t)) (f : b ≡ false) where
-      inside : S .transition (e .p) (e .a) (e .t) && repliesIn S M (e .q) (e .a) (e .t) ≡ soundOn S start M e
+      inside : S .transition (e .p) (e .a) (e .t) && defenderLoses S M (e .q) (e .a) (e .t) ≡ soundOn S start M e
       unfolding soundOn tableLts
-      inside = sym (states-in _ ∙ ap (λ (b : Bool). b || S .transition (e .p) (e .a) (e .t) && repliesIn S M (e .q) (e .a) (e .t)) (outside-is h ∙ f))
+      inside = sym (states-in _ ∙ ap (λ (b : Bool). b || S .transition (e .p) (e .a) (e .t) && defenderLoses S M (e .q) (e .a) (e .t)) (outside-is h ∙ f))
 
       pub unsound-t : Formed t → n ≤ e .t → false ≡ soundOn S start M e
       unfolding tableLts
       unsound-t ok l =
-          sym (ap (λ (b : Bool). b && repliesIn S M (e .q) (e .a) (e .t)) (no-target S (table-formed t ok) (e .p) (e .a) (e .t) (subst (λ (m : ℕ). m ≤ e .t) size l)))
+          sym (ap (λ (b : Bool). b && defenderLoses S M (e .q) (e .a) (e .t)) (no-target S (table-formed t ok) (e .p) (e .a) (e .t) (subst (λ (m : ℕ). m ≤ e .t) size l)))
           ∙ inside
 
-      pub sound-inside : {c : Bool} → c ≡ S .transition (e .p) (e .a) (e .t) && repliesIn S M (e .q) (e .a) (e .t) → c ≡ soundOn S start M e
+      pub sound-inside : {c : Bool} → c ≡ S .transition (e .p) (e .a) (e .t) && defenderLoses S M (e .q) (e .a) (e .t) → c ≡ soundOn S start M e
       sound-inside k = k ∙ inside
 
 -- ---- its mark
@@ -150,14 +151,14 @@ pub small-some : (L : Lts) (start : Rel) {p : ℕ} → Small L start → p < L .
 small-some L start small h = ⊎-elim (λ k. k) (λ z. absurd (omega (arith, z, h))) small
 
 module _ (L : Lts) (start M N : Rel) (same : (p q : ℕ) → p < 256 → q < 256 → M p q ≡ N p q) (e : Entry) where
-  replies-agree : L .states ≤ 256 → e .t < L .states → repliesIn L M (e .q) (e .a) (e .t) ≡ repliesIn L N (e .q) (e .a) (e .t)
-  unfolding repliesIn allStates
+  replies-agree : L .states ≤ 256 → e .t < L .states → defenderLoses L M (e .q) (e .a) (e .t) ≡ defenderLoses L N (e .q) (e .a) (e .t)
+  unfolding defenderLoses allStates
   replies-agree few h =
       all-cong (L .states) _ _ (λ r l. ap (λ (b : Bool). L .transition (e .q) (e .a) r ⇒ b) (same (e .t) r (omega (arith, h, few)) (omega (arith, l, few))))
 
   agree : WellFormed L → L .states ≤ 256 → (L .transition (e .p) (e .a) (e .t) ≡ true) ⊎ (L .transition (e .p) (e .a) (e .t) ≡ false)
-      → L .transition (e .p) (e .a) (e .t) && repliesIn L M (e .q) (e .a) (e .t) ≡ L .transition (e .p) (e .a) (e .t) && repliesIn L N (e .q) (e .a) (e .t)
-  agree wf few (inr f) = ap (λ (b : Bool). b && repliesIn L M (e .q) (e .a) (e .t)) f ∙ sym (ap (λ (b : Bool). b && repliesIn L N (e .q) (e .a) (e .t)) f)
+      → L .transition (e .p) (e .a) (e .t) && defenderLoses L M (e .q) (e .a) (e .t) ≡ L .transition (e .p) (e .a) (e .t) && defenderLoses L N (e .q) (e .a) (e .t)
+  agree wf few (inr f) = ap (λ (b : Bool). b && defenderLoses L M (e .q) (e .a) (e .t)) f ∙ sym (ap (λ (b : Bool). b && defenderLoses L N (e .q) (e .a) (e .t)) f)
   agree wf few (inl u) = ap (λ (b : Bool). L .transition (e .p) (e .a) (e .t) && b) (replies-agree few (wf .target _ _ _ (true-T _ u)))
 
   pub sound-agree : Small L start → soundOn L start M e ≡ soundOn L start N e

@@ -12,7 +12,8 @@ use Rattle.lts.specs.declared.Entry.{Entry}
 use Rattle.lts.specs.System.{Rel, Lts, WellFormed, reflexive}
 use Rattle.lts.specs.Strategy.{holds, sound, allSound, lastOf}
 use Rattle.lts.proofs.Below.{clash, either, true-T}
-use Rattle.strategy_depth.specs.Marks.{markOf, lowered, marked, repliesIn, entryMark}
+use Rattle.lts.specs.Game.{defenderLoses}
+use Rattle.strategy_depth.specs.Marks.{markOf, lowered, marked, entryMark}
 use Rattle.strategy_depth.proofs.Steps.{marked-holds, mark-is, marked-more}
 use Rattle.strategy_check.specs.Entries.{outside}
 use Rattle.strategy_judge.specs.Judging.{soundOn, markOver, withEntry, Noted, Judging, Judges}
@@ -111,7 +112,7 @@ module _ (L : Lts) (start : Rel) (small : Small L start) (judged : List ℕ) (lo
 
     -- where all entries so far are sound, the marks call e sound exactly if it is sound over them
     fine-is : allSound L start [] es ≡ true → sound L start (turned es []) e ≡ fine
-    unfolding sound soundOn outside repliesIn holds
+    unfolding sound soundOn outside defenderLoses holds
     fine-is all =
         sound-agree L start (holds (turned es [])) (marked (markOf judged))
         (λ p q lp lq. holds-turned es [] p q ∙ or-false (holds es p q) ∙ sym (marked-holds L es judged (known .noted all .marks) p q lp lq)) e small

@@ -14,6 +14,7 @@ use Rattle.lts.specs.System.{Rel, Lts, reflexive}
 use Rattle.lts.specs.Strategy.{allSound, lastOf}
 use Rattle.lts.specs.Depth.{depthOf}
 use Rattle.lts.specs.Rule.{Nothing, broken}
+use Rattle.lts.specs.Game.{defenderLoses}
 use Rattle.encoding.specs.declared.Header.{Header}
 use Rattle.encoding.specs.declared.Reading.{Reading}
 use Rattle.encoding.specs.declared.Reading.the-variants.{Readable, Refused}
@@ -22,7 +23,7 @@ use Rattle.encoding.specs.Denotation.{ltsOf}
 use Rattle.transitions.specs.Table.{statesOf, tableLts, Formed, Holds}
 use Rattle.relation.specs.Matrix.{relationOf, Matrix}
 use Rattle.inputs.specs.Inputs.{inputRules, readInputs}
-use Rattle.strategy_depth.specs.Marks.{markOf, lowered, marked, Marked, repliesIn, entryMark}
+use Rattle.strategy_depth.specs.Marks.{markOf, lowered, marked, Marked, entryMark}
 use Rattle.strategy_check.specs.Entries.{outside}
 use Rattle.strategy.specs.declared.Verdict.{Verdict}
 use Rattle.strategy.specs.declared.Verdict.the-variants.{Last, Refused as Rejected}
@@ -32,7 +33,7 @@ use Rattle.strategy.specs.Check.{checkReply, startOf, checkCall}
 unfoldable pub soundOn : Lts → Rel → Rel → Entry → Bool
 soundOn L start M e =
     ltb (e .p) (L .states) && ltb (e .q) (L .states)
-    && (outside start (e .p) (e .q) (e .a) (e .t) || L .transition (e .p) (e .a) (e .t) && repliesIn L M (e .q) (e .a) (e .t))
+    && (outside start (e .p) (e .q) (e .a) (e .t) || L .transition (e .p) (e .a) (e .t) && defenderLoses L M (e .q) (e .a) (e .t))
 
 -- the mark of an entry over them: one more than its depth, and 0 where it is unsound
 unfoldable pub markOver : Lts → Rel → (ℕ → ℕ → ℕ) → Entry → ℕ

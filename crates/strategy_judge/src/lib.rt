@@ -4,9 +4,10 @@ ghost use mathlib.Core.Path.{_≡_};
 ghost use mathlib.Core.Bool.{cond, _&&_};
 ghost use Prim.Native.Nat.{_<_, _≤_};
 ghost use lib.ListN.{length};
+ghost use Rattle.lts.specs.Game.{defenderLoses};
 ghost use Rattle.transitions.specs.Table.{statesOf, tableLts, Formed};
 ghost use Rattle.relation.specs.Matrix.{relationOf};
-ghost use Rattle.strategy_depth.specs.Marks.{markOf, marked, repliesIn, entryMark};
+ghost use Rattle.strategy_depth.specs.Marks.{markOf, marked, entryMark};
 ghost use Rattle.strategy_judge.specs.Judging.{markOver, Judges, Judgeable, ReadBy, Loads, verdictAt, Concludes};
 
 // What was judged: the mark of each pair (p, q) at 256 * p + q; whether an entry was unsound; the last entry's pair and its depth.
@@ -45,7 +46,7 @@ fn refuted_mark(
 ) -> usize
     requires { ⌜ (let n = statesOf (now table) in Formed (now table) × (p < n) × (q < n) × (t < n) × (length (now judged) ≡ 65540)) ⌝ }
     ensures { λ x. ⌜ (let L = tableLts (now (table .entry)) in let marks = markOf (now (judged .entry)) in
-        (x ≡ cond (L .transition p a t && repliesIn L (marked marks) q a t) (entryMark L marks q a t) 0) × (x ≤ 65536)) ⌝ }
+        (x ≡ cond (L .transition p a t && defenderLoses L (marked marks) q a t) (entryMark L marks q a t) 0) × (x ≤ 65536)) ⌝ }
 {
     if !rows::contains(&transitions::successors(table, p, a), t) {
         return 0;

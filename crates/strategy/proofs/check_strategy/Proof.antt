@@ -2,7 +2,7 @@ use mathlib.Core.Path.{refl, sym, _∙_, ap}
 use denote.Ref.{now}
 use Rattle.encoding.specs.declared.Header.{Header}
 use Rattle.inputs.proofs.Laws.{input-broken, input-kept, kept-ready}
-use Rattle.strategy_check.proofs.Checks.{mark-none, mark-some}
+use Rattle.strategy_check.proofs.Checks.{unaccepted-mark, accepted-mark}
 use Rattle.strategy.proofs.Checks.{accepted-long, unready, unsound, accepts}
 use Rattle.strategy.proofs.Promise.{check-meets}
 use borrow.Author.Needs.{needs}
@@ -25,10 +25,10 @@ returns : tie.Need-returns
 returns c =
     let a = c .before .before .before .before .before .before .before .before .before .args in
     let k = input-kept (now (a .s)) (now (a .start)) (sym (c .before .before .before .before .before .read-inputs .ensures) ∙ c .before .before .before .reading2 .given .1) in
-    check-meets _ _ _ (unsound _ _ _ _ (ap (λ (h : Header). h .states) (k .1)) (k .0) (mark-none _ _ _ (c .before .check-readable .ensures) (c .if1 .taken)) refl)
+    check-meets _ _ _ (unsound _ _ _ _ (ap (λ (h : Header). h .states) (k .1)) (k .0) (unaccepted-mark _ _ _ (c .before .check-readable .ensures) (c .if1 .taken)) refl)
 
 last-pair-requires : tie.Need-last-pair-requires
-last-pair-requires c κs = accepted-long _ _ _ (sym (mark-some _ _ _ (c .before .check-readable .ensures) (c .if1 .left) .0))
+last-pair-requires c κs = accepted-long _ _ _ (sym (accepted-mark _ _ _ (c .before .check-readable .ensures) (c .if1 .left) .0))
 
 sub-t12 : tie.Need-sub-t12
 sub-t12 c = search needs
@@ -40,7 +40,7 @@ returns-3 : tie.Need-returns-3
 returns-3 c =
     let a = c .before .before .before .before .before .before .before .before .before .before .args in
     let k = input-kept (now (a .s)) (now (a .start)) (sym (c .before .before .before .before .before .before .read-inputs .ensures) ∙ c .before .before .before .before .reading2 .given .1) in
-    let m = mark-some _ _ _ (c .before .before .check-readable .ensures) (c .before .if1 .left) in
+    let m = accepted-mark _ _ _ (c .before .before .check-readable .ensures) (c .before .if1 .left) in
     check-meets _ _ _ (accepts _ _ _ _ (ap (λ (h : Header). h .states) (k .1)) (k .0) (m .0) refl (c .last-pair .ensures .first) (c .last-pair .ensures .second) (m .1))
 
 pub check-strategy-spec : {M : Type 1} → statement M
