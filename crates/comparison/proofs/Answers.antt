@@ -2,7 +2,7 @@
 use Prim.Native.Nat.{ℕ}
 use mathlib.Core.Path.{_≡_, sym, ap, subst, _∙_}
 use mathlib.Core.List.{List}
-use Rattle.lts.specs.System.{Lts}
+use Rattle.lts.specs.System.{Rel, Lts}
 use Rattle.lts.specs.Union.{comparison, simulated}
 use Rattle.lts.specs.declared.Refusal.{Refusal}
 use Rattle.lts.specs.Rule.{refused}
@@ -17,25 +17,19 @@ use Rattle.inputs.proofs.Joined.{both-broken, both-read}
 use Rattle.comparison.specs.declared.Compared.{Compared}
 use Rattle.comparison.specs.declared.Compared.the-variants.{Refused}
 use Rattle.comparison.specs.Run.{runReply, pairReply}
-use Rattle.comparison.specs.Call.{compareReply, compareCall, ComparePromise}
-use Rattle.comparison.proofs.Promise.{promised}
+use Rattle.comparison.specs.Call.{compareReply, compareCall}
 
--- what `compare` says of its answer
-abbrev Meets : List ℕ → List ℕ → Compared → Type 0
-Meets first second r = (compareCall first second ≡ compareReply r) × ComparePromise first second (compareReply r)
-
-module _ (first second : List ℕ) where
-  pub unread : {r : Refusal} → readBoth first second ≡ Unreadable r → Meets first second (Refused r)
+module _ (start : Lts → Rel) (first second : List ℕ) where
+  pub unread : {r : Refusal} → readBoth first second ≡ Unreadable r → compareCall start first second ≡ compareReply (Refused r)
   unfolding compareCall compareReply
-  unread e = let f = refuses (bothRules first second) refused _ (both-broken first second e) in (f, promised first second f)
+  unread e = refuses (bothRules first second) refused _ (both-broken first second e)
 
   -- of a table of the joined flow
   pub compared : {h g : Header} {m : ℕ} {t : List ℕ} (r : Compared) → readBoth first second ≡ Readable h g m → Holds (joinedLts first second) t
-      → pairReply (tableLts t) (h .states) ≡ compareReply r → Meets first second r
+      → pairReply start (tableLts t) (h .states) ≡ compareReply r → compareCall start first second ≡ compareReply r
   unfolding compareCall simulated comparison pairReply runReply ltsOf
   compared {h} {g} {m} {t} r e k f =
       let b = both-read first second e in
-      let on-table = subst (λ (x : Header). pairReply (tableLts t) (x .states) ≡ compareReply r) (b .1) f in
-      let on-sheets = sym (ap (λ (L : Lts). pairReply L (headerOf first .states)) (k .same)) ∙ on-table in
-      let c = passes (bothRules first second) refused _ (b .0) ∙ on-sheets in
-      (c, promised first second c)
+      let on-table = subst (λ (x : Header). pairReply start (tableLts t) (x .states) ≡ compareReply r) (b .1) f in
+      let on-sheets = sym (ap (λ (L : Lts). pairReply start L (headerOf first .states)) (k .same)) ∙ on-table in
+      passes (bothRules first second) refused _ (b .0) ∙ on-sheets

@@ -1,4 +1,4 @@
--- The run on a table from its termination preorder, and the reply that is read from it.
+-- The run on a table from a start of it, and the reply that is read from it.
 use Prim.Native.Nat.{ℕ, _+_, _*_, _<_, _≤_}
 use native.Mathlib.Omega.{arith}
 use mathlib.Core.Path.{_≡_, sym, ap, ap₂, subst, subst⁻¹, _∙_}
@@ -7,10 +7,10 @@ use mathlib.Core.List.{List, [], _∷_, _++_}
 use lib.Dec.{T}
 use lib.ListN.{length, take, length-append}
 use lib.Seq.{take-append-seam}
-use Rattle.lts.specs.System.{Rel, Lts, terminationPreorder}
+use Rattle.lts.specs.System.{Rel, Lts}
 use Rattle.lts.specs.Refinement.{Run, coarsest}
 use Rattle.lts.specs.Rule.{given}
-use Rattle.lts.proofs.Comparison.{termination-preorder}
+use Rattle.lts.proofs.System.{Preorder}
 use Rattle.lts.proofs.Schedule.{start-same}
 use Rattle.rows.specs.Rows.{rowWords}
 use Rattle.relation.specs.Matrix.{relationOf, matrixOf}
@@ -24,22 +24,21 @@ use Rattle.encoding.proofs.Denotation.{lts-states}
 use Rattle.refinement.specs.Engine.{Start}
 use Rattle.comparison.specs.Run.{runReply, pairReply}
 
-module _ (t start : List ℕ) (written : start ≡ matrixOf (statesOf t) (terminationPreorder (tableLts t))) where
-  same-start : (p q : ℕ) → p < statesOf t → q < statesOf t → relationOf (statesOf t) start p q ≡ terminationPreorder (tableLts t) p q
+module _ (from : Lts → Rel) (t start : List ℕ) (written : start ≡ matrixOf (statesOf t) (from (tableLts t))) where
+  same-start : (p q : ℕ) → p < statesOf t → q < statesOf t → relationOf (statesOf t) start p q ≡ from (tableLts t) p q
   same-start = relation-of (statesOf t) _ written
 
-  pub start-is : Start (statesOf t) start
+  pub start-is : Preorder (tableLts t) (from (tableLts t)) → Start (statesOf t) start
   unfolding tableLts
-  start-is = record {
+  start-is pre = record {
     matrix = formed-of (statesOf t) _ written;
-    loop = λ p l. subst⁻¹ T (same-start p p l l) (termination-preorder (tableLts t) .loop p l);
-    chain = λ p q r l m o u v.
-        subst⁻¹ T (same-start p r l o) (termination-preorder (tableLts t) .chain p q r l m o (subst T (same-start p q l m) u) (subst T (same-start q r m o) v));
+    loop = λ p l. subst⁻¹ T (same-start p p l l) (pre .loop p l);
+    chain = λ p q r l m o u v. subst⁻¹ T (same-start p r l o) (pre .chain p q r l m o (subst T (same-start p q l m) u) (subst T (same-start q r m o) v));
   }
 
-  pub ended-reply : (q : ℕ) → pairReply (tableLts t) q ≡ runReply (coarsest (tableLts t) (relationOf (statesOf t) start) []) q
+  pub started-reply : (q : ℕ) → pairReply from (tableLts t) q ≡ runReply (coarsest (tableLts t) (relationOf (statesOf t) start) []) q
   unfolding pairReply tableLts
-  ended-reply q = sym (ap (λ (r : Run). runReply r q) (start-same (tableLts t) (relationOf (statesOf t) start) (terminationPreorder (tableLts t)) [] same-start))
+  started-reply q = sym (ap (λ (r : Run). runReply r q) (start-same (tableLts t) (relationOf (statesOf t) start) (from (tableLts t)) [] same-start))
 
 -- a matrix on k states, written over the first words of an array
 module _ {k n size : ℕ} (states : n ≡ k) (words : size ≡ n * rowWords n) where

@@ -2,7 +2,7 @@
 use Prim.Native.Nat.{ℕ}
 use mathlib.Core.Bool.{cond}
 use mathlib.Core.List.{[], _∷_}
-use Rattle.lts.specs.System.{Lts, terminationPreorder}
+use Rattle.lts.specs.System.{Rel, Lts}
 use Rattle.lts.specs.Refinement.{Run, coarsest}
 use Rattle.lts.specs.Rule.{Reply, given}
 
@@ -10,6 +10,6 @@ use Rattle.lts.specs.Rule.{Reply, given}
 unfoldable pub runReply : Run → ℕ → Reply
 runReply r q = given (cond (r .final .related 0 q) 1 0 ∷ r .steps ∷ [])
 
--- that of a system's run from its termination preorder (end start), with an empty schedule
-unfoldable pub pairReply : Lts → ℕ → Reply
-pairReply U q = runReply (coarsest U (terminationPreorder U) []) q
+-- that of a system's run from a start of it, with an empty schedule
+unfoldable pub pairReply : (Lts → Rel) → Lts → ℕ → Reply
+pairReply start U q = runReply (coarsest U (start U) []) q

@@ -5,14 +5,17 @@ ghost use mathlib.Core.Bool.{cond};
 ghost use mathlib.Core.List.{[], _∷_};
 ghost use Prim.Native.Nat.{_*_, _<_};
 ghost use lib.ListN.{length};
+ghost use Rattle.lts.specs.System.{terminationPreorder};
 ghost use Rattle.lts.specs.Refinement.{coarsest};
+ghost use Rattle.lts.specs.Ready.{readyPreorder};
 ghost use Rattle.lts.specs.Rule.{given};
 ghost use Rattle.rows.specs.Rows.{rowWords};
 ghost use Rattle.transitions.specs.Table.{statesOf, tableLts, Formed};
 ghost use Rattle.relation.specs.Matrix.{relationOf, matrixOf};
+ghost use Rattle.starts.specs.Start.{writtenStart};
 ghost use Rattle.refinement.specs.Engine.{Start};
 ghost use Rattle.comparison.specs.Run.{runReply, pairReply};
-ghost use Rattle.comparison.specs.Call.{compareReply, compareCall, ComparePromise};
+ghost use Rattle.comparison.specs.Call.{compareReply, compareCall, Relates, ComparePromise, CompareReadyPromise};
 
 // What compare answers: yes or no, with the steps made.
 pub enum Compared {
@@ -66,21 +69,20 @@ pub fn compare_from(table: &transitions::Table, start: &[u64], q: usize) -> Comp
     verdict(relation::relates(&related[..size], n, 0, q), steps)
 }
 
-// The same from the termination preorder (end start).
-fn compare_ended(table: &transitions::Table, q: usize) -> Compared
+// The same from the table's ready start, or from its end start.
+fn compare_started(table: &transitions::Table, ready: bool, q: usize) -> Compared
     requires { ⌜ Formed (now table) × (q < statesOf (now table)) ⌝ }
-    ensures { λ r. ⌜ pairReply (tableLts (now (table .entry))) q ≡ compareReply r ⌝ }
+    ensures { λ r. ⌜ pairReply (writtenStart ready) (tableLts (now (table .entry))) q ≡ compareReply r ⌝ }
 {
     let size = relation::matrix_words(transitions::states(table));
     let mut start = [0u64; 1024];
-    simulation::write_preorder(table, &mut start[..size]);
+    starts::write_start(table, ready, &mut start[..size]);
     compare_from(table, &start[..size], q)
 }
 
-// Compare: whether state 0 of the second encoding's system simulates state 0 of the first's, actions matched by name, with the steps made.
-pub fn compare(first: &[u8], second: &[u8]) -> Compared
-    ensures { λ r. ⌜ compareCall (now (first .entry)) (now (second .entry)) ≡ compareReply r ⌝ }
-    ensures { λ r. ⌜ ComparePromise (now (first .entry)) (now (second .entry)) (compareReply r) ⌝ }
+// The same of two encodings' disjoint union, actions matched by name, for the two states 0.
+fn compare_by(first: &[u8], second: &[u8], ready: bool) -> Compared
+    ensures { λ r. ⌜ compareCall (writtenStart ready) (now (first .entry)) (now (second .entry)) ≡ compareReply r ⌝ }
 {
     let mut to = [0u16; 65];
     let reading = inputs::read_both(first, second, &mut to);
@@ -88,7 +90,23 @@ pub fn compare(first: &[u8], second: &[u8]) -> Compared
         inputs::Both::Refused(r) => Compared::Refused(r),
         inputs::Both::Readable(h, g, m) => {
             let table = transitions::load_both(first, h, second, g, &to, m);
-            compare_ended(&table, h.states)
+            compare_started(&table, ready, h.states)
         }
     }
+}
+
+// Compare: whether state 0 of the second encoding's system simulates state 0 of the first's, with the steps made.
+pub fn compare(first: &[u8], second: &[u8]) -> Compared
+    ensures { λ r. ⌜ compareCall terminationPreorder (now (first .entry)) (now (second .entry)) ≡ compareReply r ⌝ }
+    ensures { λ r. ⌜ ComparePromise terminationPreorder Relates (now (first .entry)) (now (second .entry)) (compareReply r) ⌝ }
+{
+    compare_by(first, second, false)
+}
+
+// Compare's ready form (document 02, L6): the same where only states with the same set of actions are related.
+pub fn compare_ready(first: &[u8], second: &[u8]) -> Compared
+    ensures { λ r. ⌜ compareCall readyPreorder (now (first .entry)) (now (second .entry)) ≡ compareReply r ⌝ }
+    ensures { λ r. ⌜ CompareReadyPromise (now (first .entry)) (now (second .entry)) (compareReply r) ⌝ }
+{
+    compare_by(first, second, true)
 }

@@ -8,7 +8,7 @@ use borrow.Author.Tests.{leb-true}
 use lib.Dec.{leb}
 use lib.ListN.{length, take, drop, length-append, length-drop}
 use lib.Seq.{take-append-seam, drop-append-seam}
-use Rattle.lts.specs.System.{Lts, terminationPreorder}
+use Rattle.lts.specs.System.{Rel, Lts}
 use Rattle.lts.specs.Refinement.{coarsest}
 use Rattle.lts.specs.Union.{comparison, simulated}
 use Rattle.lts.specs.Labels.{joinedLabels, JoinedByLabel}
@@ -29,8 +29,8 @@ use Rattle.disjoint_union.proofs.Union.{joined-encodable, joined-named}
 
 module _ (first second out₀ : List ℕ) where
   -- the reply of compare, on a sheet that denotes the joined flow
-  abbrev reply-on : Lts → Reply
-  reply-on L = let r = coarsest L (terminationPreorder L) [] in given (cond (r .final .related 0 (headerOf first .states)) 1 0 ∷ r .steps ∷ [])
+  abbrev reply-on : (Lts → Rel) → Lts → Reply
+  reply-on start L = let r = coarsest L (start L) [] in given (cond (r .final .related 0 (headerOf first .states)) 1 0 ∷ r .steps ∷ [])
 
   module _ (e : broken (joinRules first second out₀) ≡ Nothing) where
     both : broken (bothRules first second) ≡ Nothing
@@ -57,9 +57,9 @@ module _ (first second out₀ : List ℕ) where
     named = subst₂ (JoinedByLabel (labelsOf first) (ltsOf first) (labelsOf second) (ltsOf second)) (sym labels) (sym (sheet-normal .same))
         (joined-named (both-joinable first second both))
 
-    compared : compareCall first second ≡ reply-on (joinedLts first second)
+    compared : (start : Lts → Rel) → compareCall start first second ≡ reply-on start (joinedLts first second)
     unfolding compareCall simulated comparison ltsOf
-    compared = passes (bothRules first second) _ _ both
+    compared start = passes (bothRules first second) _ _ both
 
     joins : {reply : Reply} {out : List ℕ} → reply ≡ given (length (joinedSheet first second) ∷ [])
         → out ≡ joinedSheet first second ++ drop (length (joinedSheet first second)) out₀
@@ -76,7 +76,7 @@ module _ (first second out₀ : List ℕ) where
           written = subst (NormalForm (joinedLabelling first second) (joinedLts first second)) (sym front) sheet-normal;
           kind = ap (λ (t : List ℕ). headerOf t .named) front ∙ kind;
           joined = subst (λ (t : List ℕ). JoinedByLabel (labelsOf first) (ltsOf first) (labelsOf second) (ltsOf second) (labelsOf t) (ltsOf t)) (sym front) named;
-          compares = compared ∙ ap reply-on (sym (sheet-normal .same) ∙ ap ltsOf (sym front));
+          compares = λ start. compared start ∙ ap (reply-on start) (sym (sheet-normal .same) ∙ ap ltsOf (sym front));
         }
 
   module _ {reply : Reply} {out : List ℕ} (is : joinCall first second out₀ ≡ record { reply = reply; out = out }) where

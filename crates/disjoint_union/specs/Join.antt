@@ -5,7 +5,7 @@ use mathlib.Core.Bool.{cond, _||_}
 use mathlib.Core.List.{List, [], _∷_, _++_}
 use lib.Dec.{leb}
 use lib.ListN.{length, take, drop}
-use Rattle.lts.specs.System.{terminationPreorder}
+use Rattle.lts.specs.System.{Rel, Lts}
 use Rattle.lts.specs.Refinement.{coarsest}
 use Rattle.lts.specs.Labels.{joinedLabels, JoinedByLabel}
 use Rattle.lts.specs.declared.Refusal.{Refusal}
@@ -66,9 +66,9 @@ pub record Joins (first second out₀ : List ℕ) (reply : Reply) (out : List �
   pub kind : headerOf (take len out) .named ≡ (headerOf first .named || headerOf second .named)
   pub joined : JoinedByLabel (labelsOf first) (ltsOf first) (labelsOf second) (ltsOf second) (labelsOf (take len out)) (ltsOf (take len out))
   -- coarsest on them, from their end start and with an empty turn list, keeps (0, n), n the first sheet's states, exactly if compare says
-  -- yes, with the same turns
-  pub compares : let L = ltsOf (take len out) in let r = coarsest L (terminationPreorder L) [] in
-      compareCall first second ≡ given (cond (r .final .related 0 (headerOf first .states)) 1 0 ∷ r .steps ∷ [])
+  -- yes, with the same turns; from their ready start, exactly if its ready form does; and so from any start that both begin with
+  pub compares : (start : Lts → Rel) → let L = ltsOf (take len out) in let r = coarsest L (start L) [] in
+      compareCall start first second ≡ given (cond (r .final .related 0 (headerOf first .states)) 1 0 ∷ r .steps ∷ [])
 
 -- What is promised of the reply and of the buffer that was out₀ and is out.
 pub record JoinPromise (first second out₀ : List ℕ) (reply : Reply) (out : List ℕ) : Type 0 where

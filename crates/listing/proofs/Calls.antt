@@ -5,7 +5,7 @@ use mathlib.Core.List.{List, []}
 use native.Mathlib.Nat.{mul-le-mul}
 use native.Mathlib.Omega.{arith}
 use Rattle.lts.specs.System.{Lts, terminationPreorder}
-use Rattle.lts.specs.Refinement.{Run, run, coarsest, blockCount, isRepresentative}
+use Rattle.lts.specs.Refinement.{Run, coarsest, blockCount, isRepresentative}
 use Rattle.lts.specs.declared.Refusal.{Refusal}
 use Rattle.lts.specs.Rule.{Nothing, broken}
 use Rattle.lts.proofs.Comparison.{termination-preorder}
@@ -21,9 +21,9 @@ use Rattle.encoding.proofs.Laws.{denoted}
 use Rattle.encoding.proofs.Reader.{reads, readable-kept}
 use Rattle.rows.specs.Rows.{rowWords}
 use Rattle.relation.specs.Matrix.{relationOf, matrixOf}
-use Rattle.relation.proofs.Matrices.{matrix-small, relation-matrix}
+use Rattle.relation.proofs.Matrices.{relation-matrix}
 use Rattle.inputs.specs.Inputs.{inputRules}
-use Rattle.simulation.specs.Calls.{TerminationOutcome, terminationCall}
+use Rattle.simulation.specs.Calls.{WriteStartOutcome, writeStartCall}
 use Rattle.simulation.proofs.CallLaws.{written}
 use Rattle.simulation.proofs.Starts.{end-start-kept}
 use Rattle.coarsest.specs.declared.Counts.{Counts}
@@ -83,11 +83,11 @@ outcomeOf a grid representatives = record { reply = coarsestReply a; grid = grid
 
 module _ {s : List ℕ} {h : Header} {start grid representatives : List ℕ} (fits : Fitting s h start grid representatives) where
   abbrev call : CoarsestOutcome
-  call = coarsestCall s (terminationCall s start .grid) [] grid representatives
+  call = coarsestCall s (writeStartCall terminationPreorder s start .grid) [] grid representatives
 
-  start-is : terminationCall s start .grid ≡ end s
+  start-is : writeStartCall terminationPreorder s start .grid ≡ end s
   start-is =
-      ap (λ (o : TerminationOutcome). o .grid) (written s start (reads s h (fits .readable)) (fits .start-long) refl .0)
+      ap (λ (o : WriteStartOutcome). o .grid) (written terminationPreorder s start (reads s h (fits .readable)) (fits .start-long) refl)
       ∙ ap (λ (x : Header). matrixOf (x .states) (terminationPreorder (ltsOf s))) (fits .readable .header)
 
   inputs-kept : broken (inputRules s (end s)) ≡ Nothing

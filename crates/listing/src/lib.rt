@@ -3,11 +3,12 @@ ghost use mathlib.Core.Path.{_≡_};
 ghost use mathlib.Core.List.{[], _++_};
 ghost use Prim.Native.Nat.{_*_, _≤_};
 ghost use lib.ListN.{length, drop};
+ghost use Rattle.lts.specs.System.{terminationPreorder};
 ghost use Rattle.lts.specs.Refusal.{refusalNumber};
 ghost use Rattle.encoding.specs.Checked.{ReadableAs};
 ghost use Rattle.encoding.specs.Denotation.{ltsOf};
 ghost use Rattle.rows.specs.Rows.{rowWords};
-ghost use Rattle.simulation.specs.Calls.{terminationCall};
+ghost use Rattle.simulation.specs.Calls.{writeStartCall};
 ghost use Rattle.coarsest.specs.Call.{coarsestReply, coarsestCall};
 ghost use Rattle.report.specs.Decimal.{written};
 ghost use Rattle.lines.specs.Lines.{refusedLine};
@@ -24,7 +25,7 @@ fn refine(
     grid: &mut [u64],
     representatives: &mut [u16],
 ) -> coarsest::Answer
-    ensures { λ r. ⌜ coarsestCall (now (s .entry)) (terminationCall (now (s .entry)) (now (start .entry)) .grid) []
+    ensures { λ r. ⌜ coarsestCall (now (s .entry)) (writeStartCall terminationPreorder (now (s .entry)) (now (start .entry)) .grid) []
         (now (grid .entry)) (now (representatives .entry))
         ≡ record { reply = coarsestReply r; grid = now (grid .exit); representatives = now (representatives .exit) } ⌝ }
 {

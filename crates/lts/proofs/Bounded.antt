@@ -3,7 +3,7 @@ use Prim.Native.Nat.{ℕ, zero, suc, _≤_, _<_}
 use native.Mathlib.Nat.{le-suc-iff, suc-inj, not-suc-le-zero, lt-suc-self, le-step}
 use mathlib.Core.Path.{_≡_, refl, sym, subst, fun-ext}
 use mathlib.Core.Logic.{_⊎_, inl, inr, _↔_}
-use mathlib.Core.Bool.{Bool, true, false, not, _&&_, _||_}
+use mathlib.Core.Bool.{Bool, true, false, not, _&&_, _||_, Bool·beq}
 use lib.Dec.{T, eqb, ltb, eqb-refl, ltb→lt, lt→ltb}
 use Rattle.lts.specs.Bounded.{_⇒_, anyBelow, allBelow, restrict}
 
@@ -18,6 +18,12 @@ not-iff false = (λ _ t. t, λ _. tt)
 pub imp-iff : (a b : Bool) → T (a ⇒ b) ↔ (T a → T b)
 imp-iff true b = (λ t _. t, λ f. f tt)
 imp-iff false b = (λ _ t. absurd t, λ _. tt)
+
+pub beq-iff : (a b : Bool) → T (Bool·beq a b) ↔ (T a ↔ T b)
+beq-iff true true = (λ _. (λ t. t, λ t. t), λ _. tt)
+beq-iff true false = (λ t. absurd t, λ e. e .0 tt)
+beq-iff false true = (λ t. absurd t, λ e. e .1 tt)
+beq-iff false false = (λ _. (λ t. t, λ t. t), λ _. tt)
 
 pub dec : (b : Bool) → T b ⊎ (T b → ⊥)
 dec true = inl tt

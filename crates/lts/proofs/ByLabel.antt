@@ -1,5 +1,5 @@
--- Systems with the same states, terminating states and transitions by label have the same coarsest simulation, whatever their action numbers;
--- and so have their joined flows. So compare's yes depends on the transitions by label alone.
+-- Systems with the same states, terminating states and transitions by label have the same coarsest simulation inside the end start and inside
+-- the ready start, whatever their action numbers; and so have their joined flows. So compare's yes depends on the transitions by label alone.
 use Prim.Native.Nat.{ℕ, suc, _+_, _-_, _≤_, _<_, zero-le, suc-le-suc}
 use native.Mathlib.Omega.{arith}
 use mathlib.Core.Path.{_≡_, refl, sym, _∙_, ap, subst, fun-ext}
@@ -12,12 +12,15 @@ use Rattle.lts.specs.System.{Rel, Lts, WellFormed, terminationPreorder}
 use Rattle.lts.specs.Refinement.{coarsest}
 use Rattle.lts.specs.Mapped.{mapped, Sends}
 use Rattle.lts.specs.Union.{disjointUnion, comparison, simulated}
+use Rattle.lts.specs.Ready.{Offers, SameActions, readyPreorder}
 use Rattle.lts.specs.Labels.{sameLabel, labelOf, joinedLabels, joinedSecond, Labels, JoinedByLabel, Move, SameByLabel}
 use Rattle.lts.proofs.Bounded.{test-ext}
 use Rattle.lts.proofs.Below.{lt-or-ge}
+use Rattle.lts.proofs.System.{Preorder}
 use Rattle.lts.proofs.Run.{coarsest-is}
 use Rattle.lts.proofs.Carried.{Corresponds, carried}
 use Rattle.lts.proofs.Comparison.{termination-preorder}
+use Rattle.lts.proofs.Ready.{ready-iff, ready-preorder}
 use Rattle.lts.proofs.Mapped.{mapped-iff, mapped-formed, move, self-terminating}
 use Rattle.lts.proofs.Places.{distinct-iff}
 use Rattle.lts.proofs.Labels.{label-tests, label-once, label-upto, joined-formed, joined-by-label}
@@ -32,21 +35,61 @@ same-back {A} {B} {L} {M} same = record {
 pub same-self : (A : List (List ℕ)) (L : Lts) → SameByLabel A L A L
 same-self A L = record { states = refl; terminating = λ _ _. refl; move = λ p x t. (λ s. s, λ s. s) }
 
-module _ (A B : List (List ℕ)) (L M : Lts) (wl : WellFormed L) (wm : WellFormed M) (labels : Labels B M) (same : SameByLabel A L B M) where
+-- a start of every system that the states, the terminating states and the transitions by label determine
+pub record LabelledStart (start : Lts → Rel) : Type 0 where
+  pub preorder : (L : Lts) → WellFormed L → Preorder L (start L)
+  pub same : (A B : List (List ℕ)) (L M : Lts) → WellFormed L → WellFormed M → Labels B M → SameByLabel A L B M
+      → (p q : ℕ) → p < L .states → q < L .states → T (start L p q) → T (start M p q)
+
+pub end-labelled : LabelledStart terminationPreorder
+unfolding terminationPreorder
+end-labelled = record {
+  preorder = λ L _. termination-preorder L;
+  same = λ A B L M _ _ _ same p q lp lq u.
+      subst (λ b. T (M .terminating p ⇒ b)) (same .terminating q lq) (subst (λ b. T (b ⇒ L .terminating q)) (same .terminating p lp) u);
+}
+
+-- the same set of actions is the same set of labels
+same-actions-labelled : (A B : List (List ℕ)) (L M : Lts) → WellFormed M → Labels B M → SameByLabel A L B M
+    → (p q : ℕ) → SameActions L p q → SameActions M p q
+same-actions-labelled A B L M wm labels same p q h a = (carry p q (λ b. h b .0), carry q p (λ b. h b .1))
+  where
+    carry : (p q : ℕ) → ((b : ℕ) → Offers L p b → Offers L q b) → Offers M p a → Offers M q a
+    carry p q g (t, u) =
+        let (b, v, e) = same .move p (labelOf B a) t .1 (a, u, refl) in
+        let (r, w) = g b (t, v) in
+        let (c, x, f) = same .move q (labelOf A b) r .0 (b, w, refl) in
+        let l = wm .action p a t u in
+        let m = wm .action q c r x in
+        let is = label-once B (labels .once) c a (m .0) (label-upto B M labels c (m .1)) (l .0) (label-upto B M labels a (l .1)) (f ∙ e) in
+        (r, move M refl is refl x)
+
+pub ready-labelled : LabelledStart readyPreorder
+ready-labelled = record {
+  preorder = ready-preorder;
+  same = λ A B L M wl wm labels same p q lp lq u.
+      let c = ready-iff L wl p q .0 u in
+      let ends : (p : ℕ) → p < L .states → L .terminating p ≡ M .terminating p = same .terminating in
+      ready-iff M wm p q .1 (
+        λ t. subst T (ends q lq) (c .0 (subst T (sym (ends p lp)) t)),
+        same-actions-labelled A B L M wm labels same p q (c .1),
+      );
+}
+
+module _ {start : Lts → Rel} (by : LabelledStart start) (A B : List (List ℕ)) (L M : Lts) (wl : WellFormed L) (wm : WellFormed M)
+    (labels : Labels B M) (same : SameByLabel A L B M) where
   abbrev State : ℕ → ℕ → Type 0
   State p q = (p ≡ q) × (p < L .states)
 
   abbrev Action : ℕ → ℕ → Type 0
   Action a b = (1 ≤ b) × (b ≤ M .actions) × (labelOf A a ≡ labelOf B b)
 
-  label-corresponds : Corresponds L M (terminationPreorder L) (terminationPreorder M) State Action
-  unfolding terminationPreorder
+  label-corresponds : Corresponds L M (start L) (start M) State Action
   label-corresponds = record {
     state = λ {p} {p′} d. subst (λ (n : ℕ). p′ < n) (same .states) (subst (λ (x : ℕ). x < L .states) (d .0) (d .1));
     inside = λ {p} {p′} {q} {q′} d e u.
-        let v = subst (λ b. T (b ⇒ L .terminating q)) (same .terminating p (d .1)) u in
-        let w = subst (λ b. T (M .terminating p ⇒ b)) (same .terminating q (e .1)) v in
-        subst (λ (x : ℕ). T (M .terminating p′ ⇒ M .terminating x)) (e .0) (subst (λ (x : ℕ). T (M .terminating x ⇒ M .terminating q)) (d .0) w);
+        let v = by .same A B L M wl wm labels same p q (d .1) (e .1) u in
+        subst (λ (x : ℕ). T (start M p′ x)) (e .0) (subst (λ (x : ℕ). T (start M x q)) (d .0) v);
     back = λ {p} {p′} b t d u.
         let l = wm .action p′ b t u in
         let s = same .move p (labelOf B b) t .1 (b, move M (sym (d .0)) refl refl u, refl) in
@@ -58,21 +101,20 @@ module _ (A B : List (List ℕ)) (L M : Lts) (wl : WellFormed L) (wm : WellForme
         (r, move M (d .0) is refl (s .1), (refl, wl .target q a r u));
   }
 
-  label-kept : (es fs : List ℕ) (p q : ℕ) → T (coarsest L (terminationPreorder L) es .final .related p q)
-      → T (coarsest M (terminationPreorder M) fs .final .related p q)
+  label-kept : (es fs : List ℕ) (p q : ℕ) → T (coarsest L (start L) es .final .related p q) → T (coarsest M (start M) fs .final .related p q)
   label-kept es fs p q u =
-      let k = coarsest-is L wl (terminationPreorder L) (termination-preorder L) es in
-      let n = coarsest-is M wm (terminationPreorder M) (termination-preorder M) fs in
+      let k = coarsest-is L wl (start L) (by .preorder L wl) es in
+      let n = coarsest-is M wm (start M) (by .preorder M wm) fs in
       let l = k .simulates .states u in
-      carried label-corresponds (coarsest L (terminationPreorder L) es .final .related) (coarsest M (terminationPreorder M) fs .final .related) k n
-      (refl, l .0) (refl, l .1) u
+      carried label-corresponds (coarsest L (start L) es .final .related) (coarsest M (start M) fs .final .related) k n (refl, l .0) (refl, l .1) u
 
-pub same-kept : (A B : List (List ℕ)) (L M : Lts) → WellFormed L → WellFormed M → Labels A L → Labels B M → SameByLabel A L B M
-    → (es fs : List ℕ) → coarsest L (terminationPreorder L) es .final .related ≡ coarsest M (terminationPreorder M) fs .final .related
-same-kept A B L M wl wm la lb same es fs =
+pub same-kept : {start : Lts → Rel} → LabelledStart start → (A B : List (List ℕ)) (L M : Lts) → WellFormed L → WellFormed M
+    → Labels A L → Labels B M → SameByLabel A L B M
+    → (es fs : List ℕ) → coarsest L (start L) es .final .related ≡ coarsest M (start M) fs .final .related
+same-kept {start} by A B L M wl wm la lb same es fs =
     fun-ext (λ p. fun-ext (λ q.
-    test-ext (coarsest L (terminationPreorder L) es .final .related p q) (coarsest M (terminationPreorder M) fs .final .related p q)
-    (label-kept A B L M wl wm lb same es fs p q) (label-kept B A M L wm wl la (same-back same) fs es p q)))
+    test-ext (coarsest L (start L) es .final .related p q) (coarsest M (start M) fs .final .related p q)
+    (label-kept by A B L M wl wm lb same es fs p q) (label-kept by B A M L wm wl la (same-back same) fs es p q)))
 
 -- ---- joined flows
 
@@ -160,8 +202,9 @@ module _ {A : List (List ℕ)} {L : Lts} {B : List (List ℕ)} {M : Lts} {J : Li
     move = λ p x t. (flow-move g g′ first second p x t, flow-move g′ g (same-back first) (same-back second) p x t);
   }
 
-  pub joined-kept : (es fs : List ℕ) → coarsest U (terminationPreorder U) es .final .related ≡ coarsest U′ (terminationPreorder U′) fs .final .related
-  joined-kept = same-kept J J′ U U′ (g .whole) (g′ .whole) (flow-labels g) (flow-labels g′) joined-same-by-label
+  pub joined-kept : {start : Lts → Rel} → LabelledStart start
+      → (es fs : List ℕ) → coarsest U (start U) es .final .related ≡ coarsest U′ (start U′) fs .final .related
+  joined-kept by = same-kept by J J′ U U′ (g .whole) (g′ .whole) (flow-labels g) (flow-labels g′) joined-same-by-label
 
 -- compare's answer on the disjoint union under the joined numbers
 abbrev flow : List (List ℕ) → Lts → List (List ℕ) → Lts → Lts
@@ -178,14 +221,15 @@ joined-is A B L M wl wm la lb = record {
   joined = joined-by-label A B L M wl wm la lb;
 }
 
-pub same-answer : (A B A′ B′ : List (List ℕ)) (L M L′ M′ : Lts) → WellFormed L → WellFormed M → WellFormed L′ → WellFormed M′
+pub same-answer : {start : Lts → Rel} → LabelledStart start → (A B A′ B′ : List (List ℕ)) (L M L′ M′ : Lts)
+    → WellFormed L → WellFormed M → WellFormed L′ → WellFormed M′
     → Labels A L → Labels B M → Labels A′ L′ → Labels B′ M′ → SameByLabel A L A′ L′ → SameByLabel B M B′ M′
-    → simulated L (joinedSecond A B M) ≡ simulated L′ (joinedSecond A′ B′ M′)
+    → simulated start L (joinedSecond A B M) ≡ simulated start L′ (joinedSecond A′ B′ M′)
 unfolding simulated comparison
-same-answer A B A′ B′ L M L′ M′ wl wm wl′ wm′ la lb la′ lb′ first second =
+same-answer {start} by A B A′ B′ L M L′ M′ wl wm wl′ wm′ la lb la′ lb′ first second =
     let U = flow A′ L′ B′ M′ in
-    ap (λ (K : Rel). K 0 (L .states)) (joined-kept (joined-is A B L M wl wm la lb) (joined-is A′ B′ L′ M′ wl′ wm′ la′ lb′) first second [] [])
-    ∙ ap (λ n. coarsest U (terminationPreorder U) [] .final .related 0 n) (first .states)
+    ap (λ (K : Rel). K 0 (L .states)) (joined-kept (joined-is A B L M wl wm la lb) (joined-is A′ B′ L′ M′ wl′ wm′ la′ lb′) first second by [] [])
+    ∙ ap (λ n. coarsest U (start U) [] .final .related 0 n) (first .states)
 
 -- ---- actions renumbered
 
@@ -208,10 +252,11 @@ renumbered-same A B m g L wf labels = record {
 }
 
 -- compare's answer is unchanged when the second's actions are renumbered with the labels carried along
-pub renumbered-answer : (A B B′ : List (List ℕ)) (m : ℕ) (g : ℕ → ℕ) (L M : Lts) → WellFormed L → WellFormed M → Labels A L → Labels B M
+pub renumbered-answer : {start : Lts → Rel} → LabelledStart start → (A B B′ : List (List ℕ)) (m : ℕ) (g : ℕ → ℕ) (L M : Lts)
+    → WellFormed L → WellFormed M → Labels A L → Labels B M
     → Sends (M .states) m (λ p. p) g M → Labels B′ (mapped (M .states) m (λ p. p) g M)
     → ((b : ℕ) → 1 ≤ b → b ≤ M .actions → labelOf B′ (g b) ≡ labelOf B b)
-    → simulated L (joinedSecond A B M) ≡ simulated L (joinedSecond A B′ (mapped (M .states) m (λ p. p) g M))
-renumbered-answer A B B′ m g L M wl wm la lb new lb′ labels =
-    same-answer A B A B′ L M L (mapped (M .states) m (λ p. p) g M) wl wm wl (mapped-formed wm new) la lb la lb′
+    → simulated start L (joinedSecond A B M) ≡ simulated start L (joinedSecond A B′ (mapped (M .states) m (λ p. p) g M))
+renumbered-answer by A B B′ m g L M wl wm la lb new lb′ labels =
+    same-answer by A B A B′ L M L (mapped (M .states) m (λ p. p) g M) wl wm wl (mapped-formed wm new) la lb la lb′
     (same-self A L) (renumbered-same B B′ m g M wm labels)

@@ -1,5 +1,5 @@
--- F1 to F6 of document 01 and the depths of document 02's L8, computed from the definitions, and the smallest systems that tell the
--- refinement rule from four near misses.
+-- F1 to F6 of document 01, the ready start of document 02's L6 and the depths of its L8, computed from the definitions, and the smallest
+-- systems that tell the refinement rule from four near misses.
 use Prim.Native.Nat.{ℕ}
 use mathlib.Core.Bool.{Bool, true, false, not, _&&_, _||_, xor}
 use mathlib.Core.List.{List, [], _∷_}
@@ -8,10 +8,11 @@ use Rattle.lts.specs.Bounded.{anyBelow, allBelow, sumBelow, largestBelow
 use Rattle.lts.specs.System.{Lts, allStates, anyState, allActions, anyAction, into, terminationPreorder, answered}
 use Rattle.lts.specs.Refinement.{run, step, stepOf, eachAction, chosen, pending, isRepresentative, representative, block, coarsest, initial, pairCount, blockCount, refine, split, prune, remove}
 use Rattle.lts.specs.Rounds.{round, refutedAt, refutationRound}
-use Rattle.lts.specs.declared.Entry.{Entry}
 use Rattle.lts.specs.Strategy.{holds, sound, allSound, accepted, entryAt, unanswered, entriesIn, entriesBefore, strategyAt, strategy, entryNumbers, entriesOf}
 use Rattle.lts.specs.Depth.{depthsAt, least, leastDepth, depthOver, measure, measured, firstDepth, depthOf}
 use Rattle.lts.specs.Game.{defenderLoses, challengerWins}
+use Rattle.lts.specs.Union.{disjointUnion, comparison, simulated}
+use Rattle.lts.specs.Ready.{sameActions, readyPreorder}
 
 -- the transitions of a list
 listed : List (ℕ × ℕ × ℕ) → ℕ → ℕ → ℕ → Bool
@@ -70,6 +71,23 @@ cases : T
     && gives (system 2 1 2 ((1, 1, 1) ∷ [])) (5 ∷ []) 1 3 2)
 unfolding listed system gives sameNumbers five accepts wins F1 F2 F3 F4 anyBelow allBelow sumBelow countBelow passing concatBelow lowest restrict allStates anyState allActions anyAction into terminationPreorder answered run step stepOf eachAction chosen pending isRepresentative representative block coarsest initial pairCount blockCount refine split prune remove round refutedAt refutationRound holds sound allSound accepted entryAt unanswered entriesIn entriesBefore strategyAt strategy entryNumbers entriesOf defenderLoses challengerWins xor
 cases = tt
+
+-- ---- L6
+
+-- 0 offers action 1, as 1 does by two transitions; 2 offers 1 and 2, 3 offers 2; 4, 5 and 6 offer none, and 6 terminates
+R : Lts
+R = system 7 2 6 ((0, 1, 4) ∷ (1, 1, 4) ∷ (1, 1, 5) ∷ (2, 1, 4) ∷ (2, 2, 4) ∷ (3, 2, 4) ∷ [])
+
+-- alike are 0 and 1, and 4 and 5; both of the latter are below 6 and not above it. Every other pair of two states is outside: neither a set
+-- with more actions nor one with as many will do. Under it F3 keeps the three pairs of a state with itself, and its first state is a yes over
+-- F2 of the older form alone.
+ready-cases : T
+    (eqb (pairCount R (readyPreorder R)) 13
+    && readyPreorder R 0 1 && readyPreorder R 1 0 && readyPreorder R 4 5 && readyPreorder R 5 4 && readyPreorder R 4 6 && readyPreorder R 5 6
+    && eqb (pairCount F3 (readyPreorder F3)) 5 && eqb (pairCount F3 (coarsest F3 (readyPreorder F3) [] .final .related)) 3
+    && simulated terminationPreorder F3 F2 && not (simulated readyPreorder F3 F2) && simulated readyPreorder F2 F2)
+unfolding listed system F2 F3 R anyBelow allBelow sumBelow countBelow passing lowest restrict allStates anyState allActions into terminationPreorder run step stepOf eachAction chosen pending isRepresentative representative block coarsest initial pairCount refine split prune remove xor disjointUnion comparison simulated sameActions readyPreorder
+ready-cases = tt
 
 -- ---- L8
 

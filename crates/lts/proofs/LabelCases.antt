@@ -50,7 +50,9 @@ unfolding joinedLabels joinedAction actionOf labelOf continued among placeIn sam
 labels = (refl, refl, refl, refl, refl)
 
 -- by name the second simulates the first, and not the other way; by number it does not
-answers : T (simulated L (joinedSecond A B M) && not (simulated M (joinedSecond B A L)) && not (simulated L M))
+answers : T
+    (simulated terminationPreorder L (joinedSecond A B M) && not (simulated terminationPreorder M (joinedSecond B A L))
+    && not (simulated terminationPreorder L M))
 unfolding simulated comparison disjointUnion joinedSecond mapped joinedLabels joinedAction actionOf labelOf continued among placeIn sameLabel anyBelow allBelow passing lowest restrict allStates anyState allActions anyAction into terminationPreorder run step stepOf eachAction chosen pending isRepresentative representative block coarsest initial refine split prune remove xor
 answers = tt
 

@@ -13,6 +13,7 @@ pub mod Union
 pub mod Demand
 pub mod Cases
 pub mod Comparison
+pub mod Ready
 pub mod Rule
 pub mod Below
 pub mod Lists

@@ -33,7 +33,7 @@ unfoldable pub joinedAction : List (List ℕ) → List (List ℕ) → ℕ → �
 joinedAction A B b = actionOf (joinedLabels A B) (labelOf B b)
 
 -- The second system under the joined numbers; the first's stay. The joined flow by name is `disjointUnion L (joinedSecond A B M)`, compare's
--- run on it `comparison L (joinedSecond A B M)`, and compare's yes `simulated L (joinedSecond A B M)`.
+-- run on it `comparison start L (joinedSecond A B M)`, and compare's yes `simulated start L (joinedSecond A B M)`.
 unfoldable pub joinedSecond : List (List ℕ) → List (List ℕ) → Lts → Lts
 joinedSecond A B M = mapped (M .states) (length (joinedLabels A B)) (λ p. p) (joinedAction A B) M
 

@@ -6,6 +6,7 @@ pub mod Strategy
 pub mod Depth
 pub mod Game
 pub mod Union
+pub mod Ready
 pub mod Refusal
 pub mod Rule
 pub mod Demand

@@ -3,27 +3,22 @@ use Prim.Native.Nat.{ℕ}
 use mathlib.Core.Path.{_≡_, ap, _∙_}
 use mathlib.Core.List.{List}
 use Rattle.lts.specs.declared.Entry.{Entry}
+use Rattle.lts.specs.System.{Rel, Lts}
 use Rattle.lts.specs.Rule.{Reply}
 use Rattle.normal_form.specs.Normalise.{normaliseCall, NormalisePromise}
 use Rattle.conversion.specs.Conversion.{toNamedCall, toPlainCall, ToNamedPromise, ToPlainPromise}
 use Rattle.simulation.specs.Calls.{simulationCall, SimulationPromise}
+use Rattle.simulation.proofs.Starts.{StartMeans}
 use Rattle.game.specs.Play.{playCall, PlayPromise}
-use Rattle.comparison.specs.Call.{compareCall, ComparePromise}
 use Rattle.disjoint_union.specs.Join.{joinCall, JoinPromise}
 use Rattle.strategy.specs.Check.{checkCall, CheckPromise}
 use Rattle.strategy.specs.Write.{writeCall, WritePromise}
 use Rattle.strategy_bytes.specs.Bytes.{entryBytes, entriesOfBytes}
 use Rattle.coarsest_bytes.specs.Call.{coarsestOnBytes, CoarsestBytesPromise}
-use Rattle.release.specs.Packed.{packed, unpacked, coarsestPlaces, comparePlaces, checkPlaces, onePlace, noPlace}
-use Rattle.release.specs.EndStart.{endStartOnBytes, EndStartBytesPromise}
+use Rattle.release.specs.Packed.{packed, unpacked, coarsestPlaces, checkPlaces, onePlace, noPlace}
+use Rattle.release.specs.Starts.{startOnBytes, StartBytesPromise}
 use Rattle.release.proofs.Replies.{Kept, carried, exact, left, exported}
-use Rattle.release.proofs.EndStarts.{end-start-promised}
-
-pub compare-exported : {first second : List ℕ} {reply : Reply} {x : ℕ} → compareCall first second ≡ reply → ComparePromise first second reply
-    → x ≡ packed comparePlaces reply → Kept comparePlaces reply
-    → (compareCall first second ≡ unpacked comparePlaces x)
-    × ((x ≡ packed comparePlaces (unpacked comparePlaces x)) × ComparePromise first second (unpacked comparePlaces x))
-compare-exported {first} {second} e p = exported comparePlaces (ComparePromise first second) e p
+use Rattle.release.proofs.Starts.{start-bytes-promised}
 
 pub play-exported : {s start words : List ℕ} {p q rounds : ℕ} {reply : Reply} {x : ℕ} → words ≡ start → playCall s words p q rounds ≡ reply
     → PlayPromise s words p q rounds reply → x ≡ packed onePlace reply → Kept onePlace reply
@@ -61,13 +56,13 @@ pub to-plain-exported : {s out₀ out : List ℕ} {reply : Reply} {x : ℕ} → 
     × ((x ≡ packed noPlace (unpacked noPlace x)) × ToPlainPromise s out₀ (unpacked noPlace x) out)
 to-plain-exported {s} {out₀} {out} = left noPlace (λ (y : Reply). record { reply = y; out = out }) (λ (y : Reply). ToPlainPromise s out₀ y out)
 
-pub end-start-exported : {s grid₀ grid : List ℕ} {reply : Reply} {x : ℕ} → endStartOnBytes s grid₀ ≡ record { reply = reply; grid = grid }
-    → x ≡ packed noPlace reply → Kept noPlace reply
-    → (endStartOnBytes s grid₀ ≡ record { reply = unpacked noPlace x; grid = grid })
-    × ((x ≡ packed noPlace (unpacked noPlace x)) × EndStartBytesPromise s grid₀ (unpacked noPlace x) grid)
-end-start-exported {s} {grid₀} {grid} e k l =
+pub start-exported : {start : Lts → Rel} {Meant : List ℕ → List ℕ → Type 0} → StartMeans start Meant → {s grid₀ grid : List ℕ} {reply : Reply} {x : ℕ}
+    → startOnBytes start s grid₀ ≡ record { reply = reply; grid = grid } → x ≡ packed noPlace reply → Kept noPlace reply
+    → (startOnBytes start s grid₀ ≡ record { reply = unpacked noPlace x; grid = grid })
+    × ((x ≡ packed noPlace (unpacked noPlace x)) × StartBytesPromise Meant s grid₀ (unpacked noPlace x) grid)
+start-exported means {s} {grid₀} {grid} e k l =
     let f = e ∙ ap (λ (y : Reply). record { reply = y; grid = grid }) (carried noPlace k l) in
-    (f, (exact noPlace k l, end-start-promised s grid₀ _ grid f))
+    (f, (exact noPlace k l, start-bytes-promised means s grid₀ _ grid f))
 
 pub coarsest-exported : {s start schedule grid₀ representatives₀ grid representatives : List ℕ} {reply : Reply} {x : ℕ}
     → coarsestOnBytes s start schedule grid₀ representatives₀ ≡ record { reply = reply; grid = grid; representatives = representatives }

@@ -21,7 +21,7 @@ use Rattle.rows.specs.Rows.{bit, wordOf, wordAt}
 use Rattle.relation.specs.Matrix.{inMatrix, matrixOf}
 use Rattle.relation.specs.Check.{isMatrix, reflexiveBelow, transitiveBelow, transitiveAt, transitivePair, startRules}
 use Rattle.inputs.specs.Inputs.{inputRules, pairRules}
-use Rattle.simulation.specs.Calls.{terminationRules, terminationCall}
+use Rattle.simulation.specs.Calls.{writeStartRules, writeStartCall}
 use Rattle.coarsest.specs.Call.{coarsestRules, refined, coarsestCall}
 use Rattle.strategy.specs.Check.{checkRules, checkCall}
 use Rattle.strategy.specs.Write.{writeRules, writeCall}
@@ -52,16 +52,16 @@ all = 7 ∷ 7 ∷ 7 ∷ []
 
 flows :
     -- F1: 0 turns, 1 kept, 1 block
-    (terminationCall F1 one ≡ record { reply = given []; grid = 1 ∷ [] })
+    (writeStartCall terminationPreorder F1 one ≡ record { reply = given []; grid = 1 ∷ [] })
     × (coarsestCall F1 (1 ∷ []) [] one one ≡ record { reply = given (0 ∷ 1 ∷ 1 ∷ []); grid = 1 ∷ []; representatives = 0 ∷ [] })
     -- F2: 0 turns, 4 kept, 1 block
-    × (terminationCall F2 two ≡ record { reply = given []; grid = 3 ∷ 3 ∷ [] })
+    × (writeStartCall terminationPreorder F2 two ≡ record { reply = given []; grid = 3 ∷ 3 ∷ [] })
     × (coarsestCall F2 (3 ∷ 3 ∷ []) [] two two ≡ record { reply = given (0 ∷ 4 ∷ 1 ∷ []); grid = 3 ∷ 3 ∷ []; representatives = 0 ∷ 0 ∷ [] })
     -- F3: 2 turns, 6 kept, 3 blocks
-    × (terminationCall F3 three ≡ record { reply = given []; grid = all })
+    × (writeStartCall terminationPreorder F3 three ≡ record { reply = given []; grid = all })
     × (coarsestCall F3 all [] three three ≡ record { reply = given (2 ∷ 6 ∷ 3 ∷ []); grid = 5 ∷ 7 ∷ 4 ∷ []; representatives = 0 ∷ 1 ∷ 2 ∷ [] })
     -- F4: 3 turns, 10 kept, 4 blocks
-    × (terminationCall F4 four ≡ record { reply = given []; grid = 15 ∷ 15 ∷ 15 ∷ 15 ∷ [] })
+    × (writeStartCall terminationPreorder F4 four ≡ record { reply = given []; grid = 15 ∷ 15 ∷ 15 ∷ 15 ∷ [] })
     × (coarsestCall F4 (15 ∷ 15 ∷ 15 ∷ 15 ∷ []) [] four four
     ≡ record { reply = given (3 ∷ 10 ∷ 4 ∷ []); grid = 1 ∷ 3 ∷ 7 ∷ 15 ∷ []; representatives = 0 ∷ 1 ∷ 2 ∷ 3 ∷ [] })
     -- F5: written, and accepted, with depth 2
@@ -74,5 +74,5 @@ flows :
     × (coarsestCall F7 all [] three three ≡ record { reply = refused Range; grid = three; representatives = three })
     × (coarsestCall F8 all [] three three ≡ record { reply = refused Length; grid = three; representatives = three })
     × (coarsestCall F9 all [] three three ≡ record { reply = refused (ReachedTwice 1); grid = three; representatives = three })
-unfolding numberAt headerOf labelsLength labelsFit stateRecordAt transitionRecordAt stateRecord transitionRecord inRange stateFits transitionFits anyBelow allBelow sumBelow countBelow passing concatBelow listBelow lowest restrict statesFit transitionsFit walk chain reached member onSomeChain allReached indices occurrences namedTwice noneTwice distinct successor successorsFit headedRules sheetRules broken checked any ltsOf isMatrix reflexiveBelow transitiveBelow transitiveAt transitivePair startRules inputRules pairRules bit wordOf wordAt inMatrix matrixOf allStates anyState allActions anyAction into terminationPreorder answered run step stepOf eachAction chosen pending isRepresentative representative representatives block coarsest initial pairCount blockCount refine split prune remove xor round refutedAt refutationRound holds sound allSound accepted lastOf entriesOf entryNumbers largestBelow depthsAt least leastDepth depthOver measure measured firstDepth depthOf unanswered entryAt entriesIn entriesBefore strategyAt strategy refutedCount strategyLength defenderLoses challengerWins terminationRules terminationCall coarsestRules refined coarsestCall checkRules checkCall writeRules writeCall playRules playCall
+unfolding numberAt headerOf labelsLength labelsFit stateRecordAt transitionRecordAt stateRecord transitionRecord inRange stateFits transitionFits anyBelow allBelow sumBelow countBelow passing concatBelow listBelow lowest restrict statesFit transitionsFit walk chain reached member onSomeChain allReached indices occurrences namedTwice noneTwice distinct successor successorsFit headedRules sheetRules broken checked any ltsOf isMatrix reflexiveBelow transitiveBelow transitiveAt transitivePair startRules inputRules pairRules bit wordOf wordAt inMatrix matrixOf allStates anyState allActions anyAction into terminationPreorder answered run step stepOf eachAction chosen pending isRepresentative representative representatives block coarsest initial pairCount blockCount refine split prune remove xor round refutedAt refutationRound holds sound allSound accepted lastOf entriesOf entryNumbers largestBelow depthsAt least leastDepth depthOver measure measured firstDepth depthOf unanswered entryAt entriesIn entriesBefore strategyAt strategy refutedCount strategyLength defenderLoses challengerWins writeStartRules writeStartCall coarsestRules refined coarsestCall checkRules checkCall writeRules writeCall playRules playCall
 flows = (refl, refl, refl, refl, refl, refl, refl, refl, refl, refl, refl, refl, refl, refl, refl)

@@ -4,7 +4,8 @@ pub mod Compared
 pub mod Joined
 pub mod Plans
 pub mod Depths
-pub mod EndStarts
+pub mod Readies
+pub mod Starts
 pub mod Exports
 pub mod Flows
 pub mod Twins

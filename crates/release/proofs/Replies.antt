@@ -14,6 +14,9 @@ use Rattle.simulation.specs.Calls.{simulationReply}
 use Rattle.game.specs.declared.Played.{Played}
 use Rattle.game.specs.declared.Played.the-variants.{Won, NotWon, Refused as Unplayed}
 use Rattle.game.specs.Play.{playReply}
+use Rattle.comparison.specs.declared.Compared.{Compared}
+use Rattle.comparison.specs.declared.Compared.the-variants.{Yes as Simulated, No as Unsimulated, Refused as Uncompared}
+use Rattle.comparison.specs.Call.{compareReply}
 use Rattle.coarsest.specs.declared.Counts.{Counts}
 use Rattle.coarsest.specs.declared.Answer.the-variants.{Done}
 use Rattle.coarsest.specs.Call.{coarsestReply}
@@ -76,8 +79,11 @@ played-kept Won = unpack-given (last 8 1)
 played-kept NotWon = unpack-given (last 8 0)
 played-kept (Unplayed r) = unpack-refused onePlace r
 
-pub compared-kept : (value steps : ℕ) → value < 256 → Kept comparePlaces (given (value ∷ steps ∷ []))
-compared-kept value steps l = unpack-given (more 8 8 value [] (steps ∷ []) l (last 16 steps))
+pub compared-kept : (a : Compared) → Kept comparePlaces (compareReply a)
+unfolding compareReply
+compared-kept (Simulated steps) = unpack-given (more 8 8 1 [] (steps ∷ []) (omega arith) (last 16 steps))
+compared-kept (Unsimulated steps) = unpack-given (more 8 8 0 [] (steps ∷ []) (omega arith) (last 16 steps))
+compared-kept (Uncompared r) = unpack-refused comparePlaces r
 
 pub check-kept : (p q depth : ℕ) → p < 65536 → q < 65536 → Kept checkPlaces (given (p ∷ q ∷ depth ∷ []))
 check-kept p q depth l m = unpack-given (more 8 16 p (40 ∷ []) (q ∷ depth ∷ []) l (more 24 16 q [] (depth ∷ []) m (last 40 depth)))

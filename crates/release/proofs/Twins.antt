@@ -10,7 +10,7 @@ use lib.Dec.{eqb, leb}
 use lib.ListN.{length, drop}
 use Rattle.lts.specs.declared.Entry.{Entry}
 use Rattle.lts.specs.declared.Refusal.the-variants.{NotDecimal, Grid, StillRelated, Unsound, Buffer}
-use Rattle.lts.specs.System.{Lts, terminationPreorder}
+use Rattle.lts.specs.System.{Rel, Lts}
 use Rattle.lts.specs.Rounds.{refutationRound}
 use Rattle.lts.specs.Strategy.{accepted, strategyLength, strategy, lastOf}
 use Rattle.lts.specs.Depth.{depthOf}
@@ -36,7 +36,7 @@ use Rattle.inputs.specs.Both.{bothRules}
 use Rattle.inputs.proofs.Twins.{append-same, checked-same, inputs-same, pair-same, first-same, second-same}
 use Rattle.conversion.specs.Conversion.{inKind, namedInDecimal, fits, toNamedRules, toPlainRules, ConversionOutcome, conversion, toNamedCall, toPlainCall}
 use Rattle.conversion.proofs.Rules.{plain-decimal, decimal-all}
-use Rattle.simulation.specs.Calls.{TerminationOutcome, terminationRules, terminationCall, isInside, simulationRules, simulationCall}
+use Rattle.simulation.specs.Calls.{WriteStartOutcome, writeStartRules, writeStartCall, isInside, simulationRules, simulationCall}
 use Rattle.game.specs.Play.{playRules, playCall}
 use Rattle.coarsest.specs.Call.{CoarsestOutcome, coarsestRules, refined, coarsestCall}
 use Rattle.carry.specs.Carried.{listOf, bytesOf}
@@ -45,7 +45,7 @@ use Rattle.coarsest_bytes.specs.Call.{carriedBack, coarsestOnBytes}
 use Rattle.strategy.specs.Check.{checkRules, checkCall}
 use Rattle.strategy.specs.Write.{WriteOutcome, writeRules, writeCall}
 use Rattle.comparison.specs.Call.{compareCall}
-use Rattle.release.specs.EndStart.{endStartOnBytes}
+use Rattle.release.specs.Starts.{startOnBytes}
 
 module _ {s t : List ℕ} (w : Twins s t) where
   -- what is computed from the number of states and the flow is the same
@@ -106,22 +106,22 @@ module _ {s t : List ℕ} (w : Twins s t) where
       (ap₂ (λ (b : Bool) (h : Header). broken (b otherwise NotDecimal ∷ eqb (length out) (encodingLength h) otherwise Buffer ∷ []))
       decimal-same (kind-same false)))
 
-  -- ## End start, on words and on bytes
-  end-rules : (grid : List ℕ) → broken (terminationRules s grid) ≡ broken (terminationRules t grid)
-  unfolding terminationRules
-  end-rules grid = append-same (sheetRules s) (sheetRules t) _ _ (twin-broken w)
+  -- ## End start and ready start, on words and on bytes
+  start-rules : (grid : List ℕ) → broken (writeStartRules s grid) ≡ broken (writeStartRules t grid)
+  unfolding writeStartRules
+  start-rules grid = append-same (sheetRules s) (sheetRules t) _ _ (twin-broken w)
       (ap (λ (n : ℕ). broken (eqb (length grid) (n * rowWords n) otherwise Buffer ∷ [])) (w .states))
 
-  pub end-start-same : (grid : List ℕ) → terminationCall s grid ≡ terminationCall t grid
-  unfolding terminationCall
-  end-start-same grid = checked-same (terminationRules s grid) (terminationRules t grid) (λ r. record { reply = refused r; grid = grid }) (end-rules grid)
-      (both {A = TerminationOutcome} (λ n L. record { reply = given []; grid = matrixOf n (terminationPreorder L) }))
+  pub write-start-same : (start : Lts → Rel) (grid : List ℕ) → writeStartCall start s grid ≡ writeStartCall start t grid
+  unfolding writeStartCall
+  write-start-same start grid = checked-same (writeStartRules s grid) (writeStartRules t grid) (λ r. record { reply = refused r; grid = grid }) (start-rules grid)
+      (both {A = WriteStartOutcome} (λ n L. record { reply = given []; grid = matrixOf n (start L) }))
 
-  pub end-start-bytes-same : (grid : List ℕ) → endStartOnBytes s grid ≡ endStartOnBytes t grid
-  unfolding endStartOnBytes
-  end-start-bytes-same grid =
-      checked-same (terminationRules s (wordsOf grid)) (terminationRules t (wordsOf grid)) (λ r. record { reply = refused r; grid = grid }) (end-rules (wordsOf grid))
-      (both {A = TerminationOutcome} (λ n L. record { reply = given []; grid = bytesOf 8 (matrixOf n (terminationPreorder L)) }))
+  pub start-bytes-same : (start : Lts → Rel) (grid : List ℕ) → startOnBytes start s grid ≡ startOnBytes start t grid
+  unfolding startOnBytes
+  start-bytes-same start grid =
+      checked-same (writeStartRules s (wordsOf grid)) (writeStartRules t (wordsOf grid)) (λ r. record { reply = refused r; grid = grid }) (start-rules (wordsOf grid))
+      (both {A = WriteStartOutcome} (λ n L. record { reply = given []; grid = bytesOf 8 (matrixOf n (start L)) }))
 
   -- ## Test simulation
   pub simulation-same : (start claim : List ℕ) → simulationCall s start claim ≡ simulationCall t start claim
@@ -186,19 +186,19 @@ module _ {s t : List ℕ} (w : Twins s t) where
         plan = carried (strategy L (relationOf n start) p q) ++ drop (width * strategyLength L (relationOf n start) p q) plan;
       }))
 
-  -- ## Compare, in either place
-  pub compare-first-same : (second : List ℕ) → compareCall s second ≡ compareCall t second
+  -- ## Compare and its ready form, in either place
+  pub compare-first-same : (start : Lts → Rel) (second : List ℕ) → compareCall start s second ≡ compareCall start t second
   unfolding compareCall
-  compare-first-same second =
+  compare-first-same start second =
       checked-same (bothRules s second) (bothRules t second) refused (first-same w second)
       (ap₂ {A = Lts} {B = List (List ℕ)} (λ L A.
       let M = joinedSecond A (labelsOf second) (ltsOf second) in
-      given (cond (simulated L M) 1 0 ∷ comparison L M .steps ∷ [])) (twin-lts w) (twin-labels w))
+      given (cond (simulated start L M) 1 0 ∷ comparison start L M .steps ∷ [])) (twin-lts w) (twin-labels w))
 
-  pub compare-second-same : (first : List ℕ) → compareCall first s ≡ compareCall first t
+  pub compare-second-same : (start : Lts → Rel) (first : List ℕ) → compareCall start first s ≡ compareCall start first t
   unfolding compareCall
-  compare-second-same first =
+  compare-second-same start first =
       checked-same (bothRules first s) (bothRules first t) refused (second-same w first)
       (ap₂ {A = Lts} {B = List (List ℕ)} (λ M B.
       let N = joinedSecond (labelsOf first) B M in
-      given (cond (simulated (ltsOf first) N) 1 0 ∷ comparison (ltsOf first) N .steps ∷ [])) (twin-lts w) (twin-labels w))
+      given (cond (simulated start (ltsOf first) N) 1 0 ∷ comparison start (ltsOf first) N .steps ∷ [])) (twin-lts w) (twin-labels w))

@@ -24,8 +24,9 @@ fields (p ∷ q ∷ places) x = x / 2 ^ p % 2 ^ (q - p) ∷ fields (q ∷ places
 unfoldable pub unpacked : List ℕ → ℕ → Reply
 unpacked places x = cond (eqb (x % 256) 0) (given (fields places x)) (record { refusal = x % 256; recordNumber = x / 256; values = [] })
 
--- where the values of each call stand. Coarsest: turns, kept pairs, blocks; compare: yes, turns; test simulation and hand play: yes, or won;
--- check plan: the pair and its depth; write plan: the entries; join: the length; normalise, to named, to plain and end start have none.
+-- where the values of each call stand. Coarsest: turns, kept pairs, blocks; compare, in either form: yes, turns; test simulation and hand
+-- play: yes, or won; check plan: the pair and its depth; write plan: the entries; join: the length; normalise, to named, to plain, end start
+-- and ready start have none.
 abbrev pub coarsestPlaces : List ℕ
 coarsestPlaces = 8 ∷ 24 ∷ 48 ∷ []
 

@@ -2,24 +2,28 @@
 // Grids and 16-bit lists are carried as bytes, low byte first. The result is one number that carries the reply, as specs/Packed.antt says.
 ghost use Prim.Native.Nat.{_+_, _*_};
 ghost use mathlib.Core.Path.{_≡_};
+ghost use Rattle.lts.specs.System.{terminationPreorder};
+ghost use Rattle.lts.specs.Ready.{readyPreorder};
 ghost use Rattle.lts.specs.Refusal.{refusalNumber, refusalRecord};
 ghost use Rattle.lts.specs.Rule.{checkedReply};
 ghost use Rattle.carry.specs.Bytes.{wordsOf};
 ghost use Rattle.normal_form.specs.Normalise.{normaliseCall, NormalisePromise};
 ghost use Rattle.conversion.specs.Conversion.{toNamedCall, toPlainCall, ToNamedPromise, ToPlainPromise};
-ghost use Rattle.simulation.specs.Calls.{simulationReply, simulationCall, SimulationPromise};
+ghost use Rattle.starts.specs.Start.{writtenStart};
+ghost use Rattle.simulation.specs.Calls.{EndStart, ReadyStart, simulationReply, simulationCall, SimulationPromise};
 ghost use Rattle.game.specs.Play.{playReply, playCall, PlayPromise};
 ghost use Rattle.coarsest.specs.declared.Answer.the-variants.{Done};
 ghost use Rattle.coarsest.specs.Call.{coarsestReply};
 ghost use Rattle.coarsest_bytes.specs.Call.{coarsestOnBytes, CoarsestBytesPromise};
 ghost use Rattle.coarsest_bytes.specs.Carried.{Small};
-ghost use Rattle.comparison.specs.Call.{compareReply, compareCall, ComparePromise};
-ghost use Rattle.disjoint_union.specs.Join.{joinReply, joinCall, JoinPromise};
-ghost use Rattle.strategy.specs.Check.{checkReply, checkCall, CheckPromise};
-ghost use Rattle.strategy.specs.Write.{writeReply, writeCall, WritePromise};
+ghost use Rattle.comparison.specs.Call.{compareReply, compareCall, Relates, ComparePromise, CompareReadyPromise};
+ghost use Rattle.disjoint_union.specs.Join.{joinCall, JoinPromise};
+ghost use Rattle.strategy.specs.Check.{checkCall, CheckPromise};
+ghost use Rattle.strategy.specs.Write.{writeCall, WritePromise};
 ghost use Rattle.strategy_bytes.specs.Bytes.{entryBytes, entriesOfBytes};
 ghost use Rattle.release.specs.Packed.{packed, unpacked, coarsestPlaces, comparePlaces, checkPlaces, onePlace, noPlace};
-ghost use Rattle.release.specs.EndStart.{endStartOnBytes, EndStartBytesPromise};
+ghost use Rattle.release.specs.Starts.{startOnBytes, StartBytesPromise};
+ghost use Rattle.release.specs.Turns.{FewTurns};
 
 // A refusal and its record, as one number: `packed` of it at any places.
 fn pack_refused(r: lts::Refusal) -> u64
@@ -70,6 +74,18 @@ fn pack_counts(counts: coarsest::Counts) -> u64
         + 281474976710656 * (counts.blocks as u64)
 }
 
+// Yes or no and the turns, as one number.
+fn pack_compared(answer: comparison::Compared) -> u64
+    requires { ⌜ FewTurns (compareReply answer) ⌝ }
+    ensures { λ r. ⌜ r ≡ packed comparePlaces (compareReply answer) ⌝ }
+{
+    match answer {
+        comparison::Compared::Refused(r) => pack_refused(r),
+        comparison::Compared::Yes(steps) => 256 + 65536 * (steps as u64),
+        comparison::Compared::No(steps) => 65536 * (steps as u64),
+    }
+}
+
 // Coarsest.
 #[no_mangle]
 pub extern "C" fn flow_coarsest(
@@ -95,16 +111,21 @@ pub extern "C" fn flow_coarsest(
 // Compare.
 #[no_mangle]
 pub extern "C" fn flow_compare(first: &[u8], second: &[u8]) -> u64
-    ensures { λ r. ⌜ compareCall (now (first .entry)) (now (second .entry)) ≡ unpacked comparePlaces r ⌝ }
+    ensures { λ r. ⌜ compareCall terminationPreorder (now (first .entry)) (now (second .entry)) ≡ unpacked comparePlaces r ⌝ }
     ensures { λ r. ⌜ r ≡ packed comparePlaces (unpacked comparePlaces r) ⌝ }
-    ensures { λ r. ⌜ ComparePromise (now (first .entry)) (now (second .entry)) (unpacked comparePlaces r) ⌝ }
+    ensures { λ r. ⌜ ComparePromise terminationPreorder Relates (now (first .entry)) (now (second .entry)) (unpacked comparePlaces r) ⌝ }
 {
-    let answer = comparison::compare(first, second);
-    match answer {
-        comparison::Compared::Refused(r) => pack_refused(r),
-        comparison::Compared::Yes(steps) => 256 + 65536 * (steps as u64),
-        comparison::Compared::No(steps) => 65536 * (steps as u64),
-    }
+    pack_compared(comparison::compare(first, second))
+}
+
+// Compare's ready form.
+#[no_mangle]
+pub extern "C" fn flow_compare_ready(first: &[u8], second: &[u8]) -> u64
+    ensures { λ r. ⌜ compareCall readyPreorder (now (first .entry)) (now (second .entry)) ≡ unpacked comparePlaces r ⌝ }
+    ensures { λ r. ⌜ r ≡ packed comparePlaces (unpacked comparePlaces r) ⌝ }
+    ensures { λ r. ⌜ CompareReadyPromise (now (first .entry)) (now (second .entry)) (unpacked comparePlaces r) ⌝ }
+{
+    pack_compared(comparison::compare_ready(first, second))
 }
 
 // Join, into a buffer at least as long as the sheet that is written. Bytes past it stay as they are.
@@ -178,28 +199,45 @@ pub extern "C" fn flow_test_simulation(s: &[u8], start: &[u8], claim: &[u8]) -> 
     pack_tested(simulation::is_simulation(s, &start_words[..m], &claim_words[..n]))
 }
 
-// End start, with the words that the bytes carry.
-fn end_start_in(s: &[u8], grid: &mut [u8], words: &mut [u64]) -> lts::Checked
+// Ready start or end start, with the words that the bytes carry.
+fn start_in(s: &[u8], ready: bool, grid: &mut [u8], words: &mut [u64]) -> lts::Checked
     requires { ⌜ now words ≡ wordsOf (now grid) ⌝ }
-    ensures { λ r. ⌜ endStartOnBytes (now (s .entry)) (now (grid .entry)) ≡ record { reply = checkedReply r; grid = now (grid .exit) } ⌝ }
+    ensures { λ r. ⌜ startOnBytes (writtenStart ready) (now (s .entry)) (now (grid .entry)) ≡ record { reply = checkedReply r; grid = now (grid .exit) } ⌝ }
 {
-    let answer = simulation::termination_preorder(s, words);
+    let answer = simulation::write_start(s, ready, words);
     if let lts::Checked::Passed = answer {
         carry::store_words(words, grid);
     }
     answer
 }
 
-// End start.
-#[no_mangle]
-pub extern "C" fn flow_end_start(s: &[u8], grid: &mut [u8]) -> u64
-    ensures { λ r. ⌜ endStartOnBytes (now (s .entry)) (now (grid .entry)) ≡ record { reply = unpacked noPlace r; grid = now (grid .exit) } ⌝ }
-    ensures { λ r. ⌜ r ≡ packed noPlace (unpacked noPlace r) ⌝ }
-    ensures { λ r. ⌜ EndStartBytesPromise (now (s .entry)) (now (grid .entry)) (unpacked noPlace r) (now (grid .exit)) ⌝ }
+// The same, with an array for the words.
+fn start_on_bytes(s: &[u8], ready: bool, grid: &mut [u8]) -> lts::Checked
+    ensures { λ r. ⌜ startOnBytes (writtenStart ready) (now (s .entry)) (now (grid .entry)) ≡ record { reply = checkedReply r; grid = now (grid .exit) } ⌝ }
 {
     let mut words = [0u64; 1024];
     let n = carry::load_grid(grid, &mut words);
-    pack_checked(end_start_in(s, grid, &mut words[..n]))
+    start_in(s, ready, grid, &mut words[..n])
+}
+
+// End start.
+#[no_mangle]
+pub extern "C" fn flow_end_start(s: &[u8], grid: &mut [u8]) -> u64
+    ensures { λ r. ⌜ startOnBytes terminationPreorder (now (s .entry)) (now (grid .entry)) ≡ record { reply = unpacked noPlace r; grid = now (grid .exit) } ⌝ }
+    ensures { λ r. ⌜ r ≡ packed noPlace (unpacked noPlace r) ⌝ }
+    ensures { λ r. ⌜ StartBytesPromise EndStart (now (s .entry)) (now (grid .entry)) (unpacked noPlace r) (now (grid .exit)) ⌝ }
+{
+    pack_checked(start_on_bytes(s, false, grid))
+}
+
+// Ready start.
+#[no_mangle]
+pub extern "C" fn flow_ready_start(s: &[u8], grid: &mut [u8]) -> u64
+    ensures { λ r. ⌜ startOnBytes readyPreorder (now (s .entry)) (now (grid .entry)) ≡ record { reply = unpacked noPlace r; grid = now (grid .exit) } ⌝ }
+    ensures { λ r. ⌜ r ≡ packed noPlace (unpacked noPlace r) ⌝ }
+    ensures { λ r. ⌜ StartBytesPromise ReadyStart (now (s .entry)) (now (grid .entry)) (unpacked noPlace r) (now (grid .exit)) ⌝ }
+{
+    pack_checked(start_on_bytes(s, true, grid))
 }
 
 // Check plan, with the depth of the last entry. Bytes past the last whole entry of eight are ignored.

@@ -7,7 +7,7 @@ use Prim.Native.Nat.{ℕ, _*_}
 use lib.Dec.{T, eqb}
 use lib.ListN.{length}
 use borrow.Author.Tests.{eq-eqb, ne-eqb}
-use Rattle.lts.specs.System.{Rel, Lts, within, answered, isSimulation, terminationPreorder}
+use Rattle.lts.specs.System.{Rel, Lts, within, answered, isSimulation}
 use Rattle.lts.specs.declared.Refusal.{Refusal}
 use Rattle.lts.specs.declared.Refusal.the-variants.{Grid, Buffer}
 use Rattle.lts.specs.declared.Checked.{Checked}
@@ -32,8 +32,8 @@ use Rattle.inputs.specs.Inputs.{inputRules, readInputs}
 use Rattle.inputs.proofs.Laws.{input-broken, input-kept}
 use Rattle.simulation.specs.declared.Tested.{Tested}
 use Rattle.simulation.specs.declared.Tested.the-variants.{Yes, No, Refused}
-use Rattle.simulation.specs.Calls.{terminationRules, terminationCall, TerminationPromise, isInside, simulationReply, simulationRules, simulationCall, SimulationPromise}
-use Rattle.simulation.proofs.Promise.{termination-promised, simulation-promised}
+use Rattle.simulation.specs.Calls.{writeStartRules, writeStartCall, isInside, simulationReply, simulationRules, simulationCall, SimulationPromise}
+use Rattle.simulation.proofs.Promise.{simulation-promised}
 
 -- ## A claim whose pairs meet the conditions is a simulation inside the start
 pairs-inside : (L : Lts) (start R : Rel) → within L R (bothConditions L start R) ≡ isInside L start R
@@ -53,8 +53,8 @@ pairs-inside L start R = test-ext _ _
 
 -- ## The system of an encoding is its table's
 module _ (s : List ℕ) (h : Header) (g : ReadableAs s h) {t : List ℕ} (k : Holds (ltsOf s) t) where
-  pub preorder-table : {grid : List ℕ} → grid ≡ matrixOf (statesOf t) (terminationPreorder (tableLts t)) → grid ≡ matrixOf (h .states) (terminationPreorder (ltsOf s))
-  preorder-table e = e ∙ ap₂ (λ (n : ℕ) (L : Lts). matrixOf n (terminationPreorder L)) (sheet-states s h g k) (k .same)
+  pub start-table : (start : Lts → Rel) {grid : List ℕ} → grid ≡ matrixOf (statesOf t) (start (tableLts t)) → grid ≡ matrixOf (h .states) (start (ltsOf s))
+  start-table start e = e ∙ ap₂ (λ (n : ℕ) (L : Lts). matrixOf n (start L)) (sheet-states s h g k) (k .same)
 
   pub inside-table : (start claim : List ℕ) {b : Bool}
       → (let m = statesOf t in b ≡ within (tableLts t) (relationOf m claim) (bothConditions (tableLts t) (relationOf m start) (relationOf m claim)))
@@ -63,39 +63,36 @@ module _ (s : List ℕ) (h : Header) (g : ReadableAs s h) {t : List ℕ} (k : Ho
       e ∙ pairs-inside (tableLts t) (relationOf (statesOf t) start) (relationOf (statesOf t) claim)
       ∙ ap₂ (λ (L : Lts) (m : ℕ). isInside L (relationOf m start) (relationOf m claim)) (k .same) (sheet-states s h g k)
 
--- ## The end start
--- what it says of its answer r and of the words g that it leaves
-abbrev Writes : List ℕ → List ℕ → Checked → List ℕ → Type 0
-Writes s grid r g = (terminationCall s grid ≡ record { reply = checkedReply r; grid = g }) × TerminationPromise s grid (checkedReply r) g
+-- ## End start and ready start
+-- the call comes to the answer r and leaves the words g
+abbrev ComesTo : (Lts → Rel) → List ℕ → List ℕ → Checked → List ℕ → Type 0
+ComesTo start s grid r g = writeStartCall start s grid ≡ record { reply = checkedReply r; grid = g }
 
-module _ (s grid : List ℕ) where
-  writes : (r : Checked) (g : List ℕ) → terminationCall s grid ≡ record { reply = checkedReply r; grid = g } → Writes s grid r g
-  writes r g e = (e, termination-promised s grid _ _ e)
-
-  refusing : {r : Refusal} → broken (terminationRules s grid) ≡ First r → Writes s grid (Unwritten r) grid
-  unfolding terminationCall checkedReply
-  refusing {r} e = writes (Unwritten r) grid (refuses (terminationRules s grid) _ _ e)
+module _ (start : Lts → Rel) (s grid : List ℕ) where
+  refusing : {r : Refusal} → broken (writeStartRules s grid) ≡ First r → ComesTo start s grid (Unwritten r) grid
+  unfolding writeStartCall checkedReply
+  refusing e = refuses (writeStartRules s grid) _ _ e
 
   -- what is left of the rules where the sheet keeps its own
   sized : {h : Header} → readEncoding s ≡ Readable h
-      → broken (terminationRules s grid) ≡ broken (eqb (length grid) (h .states * rowWords (h .states)) otherwise Buffer ∷ [])
-  unfolding terminationRules
+      → broken (writeStartRules s grid) ≡ broken (eqb (length grid) (h .states * rowWords (h .states)) otherwise Buffer ∷ [])
+  unfolding writeStartRules
   sized e = let k = sheet-kept s e in rw (k .1) (second-part (sheetRules s) _ (k .0))
 
-  pub stopped : {r : Refusal} → readEncoding s ≡ Unreadable r → Writes s grid (Unwritten r) grid
-  unfolding terminationRules
+  pub stopped : {r : Refusal} → readEncoding s ≡ Unreadable r → ComesTo start s grid (Unwritten r) grid
+  unfolding writeStartRules
   stopped e = refusing (first-part (sheetRules s) _ (sheet-broken s e))
 
   pub misfit : {h : Header} → readEncoding s ≡ Readable h → (length grid ≡ h .states * rowWords (h .states) → ⊥)
-      → Writes s grid (Unwritten Buffer) grid
+      → ComesTo start s grid (Unwritten Buffer) grid
   misfit {h} e n = refusing (stop _ _ _ (sized e) (sym (ne-eqb (length grid) (h .states * rowWords (h .states)) n)) refl)
 
   pub written : {h : Header} {g : List ℕ} → readEncoding s ≡ Readable h → length grid ≡ h .states * rowWords (h .states)
-      → g ≡ matrixOf (h .states) (terminationPreorder (ltsOf s)) → Writes s grid Passed g
-  unfolding terminationCall checkedReply
-  written {h} {g} e n w =
+      → g ≡ matrixOf (h .states) (start (ltsOf s)) → ComesTo start s grid Passed g
+  unfolding writeStartCall checkedReply
+  written {h} e n w =
       let kept = done (pass _ _ _ (sized e) (sym (eq-eqb (length grid) (h .states * rowWords (h .states)) n)) refl) in
-      writes Passed g (rw (w, sheet-kept s e .1) (passes (terminationRules s grid) _ _ kept))
+      rw (w, sheet-kept s e .1) (passes (writeStartRules s grid) _ _ kept)
 
 -- ## Test simulation
 -- what it says of its answer r

@@ -1,45 +1,51 @@
--- What is promised of end start and of test simulation follows from their equations.
+-- What is promised of end start, of ready start and of test simulation follows from their equations.
 use mathlib.Core.Path.{_≡_, refl, sym, ap, subst}
 use mathlib.Core.Logic.{_↔_}
 use mathlib.Core.List.{List, []}
 use Prim.Native.Nat.{ℕ, _<_}
 use lib.Dec.{T}
 use Rattle.lts.specs.Bounded.{restrict}
-use Rattle.lts.specs.System.{Rel, Lts, WellFormed, terminationPreorder, isSimulation, within, answered, Simulation}
+use Rattle.lts.specs.System.{Rel, Lts, WellFormed, isSimulation, within, answered, Simulation}
 use Rattle.lts.specs.declared.Refusal.{Refusal}
 use Rattle.lts.specs.Rule.{Nothing, First, broken, Reply, refused, given}
 use Rattle.lts.proofs.Bounded.{and-iff, restrict-iff}
 use Rattle.lts.proofs.Rule.{both-kept, when-broken, when-kept, decided}
 use Rattle.lts.proofs.System.{within-iff, answered-iff}
 use Rattle.encoding.specs.Records.{headerOf}
+use Rattle.encoding.specs.Encoding.{sheetRules}
 use Rattle.encoding.specs.Denotation.{ltsOf}
 use Rattle.encoding.proofs.Laws.{denoted}
 use Rattle.encoding.proofs.Reader.{reads}
 use Rattle.relation.specs.Matrix.{relationOf, matrixOf}
 use Rattle.inputs.specs.Inputs.{inputRules}
 use Rattle.inputs.proofs.Laws.{kept-ready}
-use Rattle.simulation.specs.Calls.{TerminationOutcome, terminationRules, terminationCall, EndStart, TerminationPromise, isInside, simulationRules, simulationCall, SimulationPromise}
-use Rattle.simulation.proofs.Starts.{end-start}
+use Rattle.simulation.specs.Calls.{WriteStartOutcome, writeStartRules, writeStartCall, WriteStartPromise, isInside, simulationRules, simulationCall, SimulationPromise}
+use Rattle.simulation.proofs.Starts.{StartMeans}
 
--- ## The end start
-module _ (s grid₀ : List ℕ) (reply : Reply) (grid : List ℕ) (is : terminationCall s grid₀ ≡ record { reply = reply; grid = grid }) where
-  broken-is : {r : Refusal} → broken (terminationRules s grid₀) ≡ First r
-      → _≡_ {A = TerminationOutcome} (record { reply = reply; grid = grid }) (record { reply = refused r; grid = grid₀ })
-  unfolding terminationCall
-  broken-is e = when-broken (terminationRules s grid₀) _ _ is e
+-- ## End start and ready start
+module _ {start : Lts → Rel} {Meant : List ℕ → List ℕ → Type 0} (means : StartMeans start Meant) (s grid₀ : List ℕ) (reply : Reply) (grid : List ℕ)
+    (is : writeStartCall start s grid₀ ≡ record { reply = reply; grid = grid }) where
+  broken-is : {r : Refusal} → broken (writeStartRules s grid₀) ≡ First r
+      → _≡_ {A = WriteStartOutcome} (record { reply = reply; grid = grid }) (record { reply = refused r; grid = grid₀ })
+  unfolding writeStartCall
+  broken-is e = when-broken (writeStartRules s grid₀) _ _ is e
 
-  kept-is : broken (terminationRules s grid₀) ≡ Nothing
-      → _≡_ {A = TerminationOutcome} (record { reply = reply; grid = grid })
-      (record { reply = given []; grid = matrixOf (headerOf s .states) (terminationPreorder (ltsOf s)) })
-  unfolding terminationCall
-  kept-is e = when-kept (terminationRules s grid₀) _ _ is e
+  kept-is : broken (writeStartRules s grid₀) ≡ Nothing
+      → _≡_ {A = WriteStartOutcome} (record { reply = reply; grid = grid })
+      (record { reply = given []; grid = matrixOf (headerOf s .states) (start (ltsOf s)) })
+  unfolding writeStartCall
+  kept-is e = when-kept (writeStartRules s grid₀) _ _ is e
 
-  pub termination-promised : TerminationPromise s grid₀ reply grid
-  termination-promised = record {
-    refuses = λ r e. (ap (λ (o : TerminationOutcome). o .reply) (broken-is e), ap (λ (o : TerminationOutcome). o .grid) (broken-is e));
+  readable : broken (writeStartRules s grid₀) ≡ Nothing → broken (sheetRules s) ≡ Nothing
+  unfolding writeStartRules
+  readable e = both-kept (sheetRules s) _ e .0
+
+  pub start-promised : WriteStartPromise Meant s grid₀ reply grid
+  start-promised = record {
+    refuses = λ r e. (ap (λ (o : WriteStartOutcome). o .reply) (broken-is e), ap (λ (o : WriteStartOutcome). o .grid) (broken-is e));
     answers = λ e. (
-      ap (λ (o : TerminationOutcome). o .reply) (kept-is e),
-      subst (EndStart s) (sym (ap (λ (o : TerminationOutcome). o .grid) (kept-is e))) (end-start s),
+      ap (λ (o : WriteStartOutcome). o .reply) (kept-is e),
+      subst (Meant s) (sym (ap (λ (o : WriteStartOutcome). o .grid) (kept-is e))) (means .meant s (readable e)),
     );
   }
 

@@ -1,15 +1,16 @@
-// The calls end start and test simulation (document 01, "Grids").
+// The calls end start and test simulation (document 01, "Grids"), and ready start (document 02, L6).
 ghost use mathlib.Core.Path.{_≡_};
 ghost use Prim.Native.Nat.{_*_};
 ghost use lib.ListN.{length};
 ghost use Rattle.lts.specs.System.{terminationPreorder};
+ghost use Rattle.lts.specs.Ready.{readyPreorder};
 ghost use Rattle.lts.specs.Rule.{checkedReply};
 ghost use Rattle.encoding.specs.Checked.{ReadableAs};
 ghost use Rattle.encoding.specs.Denotation.{ltsOf};
 ghost use Rattle.rows.specs.Rows.{rowWords};
-ghost use Rattle.transitions.specs.Table.{statesOf, tableLts, Formed};
 ghost use Rattle.relation.specs.Matrix.{relationOf, matrixOf, Matrix};
-ghost use Rattle.simulation.specs.Calls.{terminationCall, TerminationPromise};
+ghost use Rattle.starts.specs.Start.{writtenStart};
+ghost use Rattle.simulation.specs.Calls.{writeStartCall, EndStart, ReadyStart, WriteStartPromise};
 ghost use Rattle.simulation.specs.Calls.{isInside, simulationReply, simulationCall, SimulationPromise};
 
 // What testing a simulation answers.
@@ -19,29 +20,18 @@ pub enum Tested {
     Refused(lts::Refusal),
 }
 
-// Writes the termination preorder of a table.
-pub fn write_preorder(table: &transitions::Table, grid: &mut [u64])
-    requires { ⌜ Formed (now table) × (length (now grid) ≡ statesOf (now table) * rowWords (statesOf (now table))) ⌝ }
-    ensures { λ _. ⌜ now (grid .exit) ≡ matrixOf (statesOf (now (table .entry))) (terminationPreorder (tableLts (now (table .entry)))) ⌝ }
-{
-    let n = transitions::states(table);
-    let terminating = transitions::terminating(table);
-    relation::write_termination(&terminating, n, grid);
-}
-
-// The same of a readable encoding.
-fn write_loaded(s: &[u8], h: encoding::Header, grid: &mut [u64])
+// Writes the ready start of a readable encoding, or its end start.
+fn write_loaded(s: &[u8], h: encoding::Header, ready: bool, grid: &mut [u64])
     requires { ⌜ ReadableAs (now s) h × (length (now grid) ≡ h .states * rowWords (h .states)) ⌝ }
-    ensures { λ _. ⌜ now (grid .exit) ≡ matrixOf (h .states) (terminationPreorder (ltsOf (now (s .entry)))) ⌝ }
+    ensures { λ _. ⌜ now (grid .exit) ≡ matrixOf (h .states) (writtenStart ready (ltsOf (now (s .entry)))) ⌝ }
 {
     let table = transitions::load(s, h);
-    write_preorder(&table, grid);
+    starts::write_start(&table, ready, grid);
 }
 
-// End start: writes the termination preorder of an encoding.
-pub fn termination_preorder(s: &[u8], grid: &mut [u64]) -> lts::Checked
-    ensures { λ r. ⌜ terminationCall (now (s .entry)) (now (grid .entry)) ≡ record { reply = checkedReply r; grid = now (grid .exit) } ⌝ }
-    ensures { λ r. ⌜ TerminationPromise (now (s .entry)) (now (grid .entry)) (checkedReply r) (now (grid .exit)) ⌝ }
+// The same of an encoding: ready start, or end start.
+pub fn write_start(s: &[u8], ready: bool, grid: &mut [u64]) -> lts::Checked
+    ensures { λ r. ⌜ writeStartCall (writtenStart ready) (now (s .entry)) (now (grid .entry)) ≡ record { reply = checkedReply r; grid = now (grid .exit) } ⌝ }
 {
     let reading = reader::read_encoding(s);
     match reading {
@@ -50,10 +40,26 @@ pub fn termination_preorder(s: &[u8], grid: &mut [u64]) -> lts::Checked
             if grid.len() != relation::matrix_words(h.states) {
                 return lts::Checked::Refused(lts::Refusal::Buffer);
             }
-            write_loaded(s, h, grid);
+            write_loaded(s, h, ready, grid);
             lts::Checked::Passed
         }
     }
+}
+
+// End start: writes the termination preorder of an encoding.
+pub fn termination_preorder(s: &[u8], grid: &mut [u64]) -> lts::Checked
+    ensures { λ r. ⌜ writeStartCall terminationPreorder (now (s .entry)) (now (grid .entry)) ≡ record { reply = checkedReply r; grid = now (grid .exit) } ⌝ }
+    ensures { λ r. ⌜ WriteStartPromise EndStart (now (s .entry)) (now (grid .entry)) (checkedReply r) (now (grid .exit)) ⌝ }
+{
+    write_start(s, false, grid)
+}
+
+// Ready start: writes the ready preorder of an encoding.
+pub fn ready_preorder(s: &[u8], grid: &mut [u64]) -> lts::Checked
+    ensures { λ r. ⌜ writeStartCall readyPreorder (now (s .entry)) (now (grid .entry)) ≡ record { reply = checkedReply r; grid = now (grid .exit) } ⌝ }
+    ensures { λ r. ⌜ WriteStartPromise ReadyStart (now (s .entry)) (now (grid .entry)) (checkedReply r) (now (grid .exit)) ⌝ }
+{
+    write_start(s, true, grid)
 }
 
 // Whether the claim is a simulation of a readable encoding, inside the start.

@@ -48,14 +48,16 @@ fn read_start(operation: u8, s: &[u8]) {
 fn run_case(operation: u8, s: &[u8]) {
     match operation {
         1 => sheets::run_written(1, s),
-        2 => relations::run_termination(s),
-        8 => sheets::run_compared(s),
+        2 => relations::run_start(2, s),
+        8 => sheets::run_compared(8, s),
         9 => sheets::run_reading(s),
         14 => refinements::run_carried(s),
         15 => sheets::run_joined(s),
         16 => sheets::run_text(s),
         17 => sheets::run_written(17, s),
         18 => sheets::run_written(18, s),
+        19 => relations::run_start(19, s),
+        20 => sheets::run_compared(20, s),
         _ => read_start(operation, s),
     }
 }

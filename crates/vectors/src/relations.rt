@@ -3,16 +3,23 @@ use case_files::checksums;
 use case_files::fields;
 use case_files::output;
 
-fn put_termination(s: &[u8], grid: &mut [u64]) {
-    output::put_checked(simulation::termination_preorder(s, grid));
+fn write_start(operation: u8, s: &[u8], grid: &mut [u64]) -> lts::Checked {
+    match operation {
+        19 => simulation::ready_preorder(s, grid),
+        _ => simulation::termination_preorder(s, grid),
+    }
+}
+
+fn put_start(operation: u8, s: &[u8], grid: &mut [u64]) {
+    output::put_checked(write_start(operation, s, grid));
     output::put(checksums::words(grid));
 }
 
-// Operation 2, end start: a sheet and a grid.
-pub fn run_termination(s: &[u8]) {
+// Operations 2, end start, and 19, ready start: a sheet and a grid.
+pub fn run_start(operation: u8, s: &[u8]) {
     let mut grid = [0u64; 1025];
     let n = fields::read_words(&mut grid);
-    put_termination(s, &mut grid[..n]);
+    put_start(operation, s, &mut grid[..n]);
 }
 
 fn put_tested(answer: simulation::Tested) {

@@ -31,11 +31,18 @@ fn put_compared(answer: comparison::Compared) {
     }
 }
 
-// Operation 8, compare: two sheets.
-pub fn run_compared(first: &[u8]) {
+fn compare(operation: u8, first: &[u8], second: &[u8]) -> comparison::Compared {
+    match operation {
+        20 => comparison::compare_ready(first, second),
+        _ => comparison::compare(first, second),
+    }
+}
+
+// Operations 8, compare, and 20, its ready form: two sheets.
+pub fn run_compared(operation: u8, first: &[u8]) {
     let mut second = [0u8; 8200];
     let n = fields::read_field(&mut second);
-    put_compared(comparison::compare(first, &second[..n]));
+    put_compared(compare(operation, first, &second[..n]));
 }
 
 // Operation 9, read: a sheet.

@@ -17,11 +17,13 @@ pub enum Call {
     Join,
     ToNamed,
     ToPlain,
+    ReadyStart,
+    CompareReady,
 }
 
 impl Call {
     /// All calls.
-    pub const ALL: [Call; 11] = [
+    pub const ALL: [Call; 13] = [
         Call::Coarsest,
         Call::Compare,
         Call::Normalise,
@@ -33,6 +35,8 @@ impl Call {
         Call::Join,
         Call::ToNamed,
         Call::ToPlain,
+        Call::ReadyStart,
+        Call::CompareReady,
     ];
 
     /// The documents' name, with _ for a blank.
@@ -49,6 +53,8 @@ impl Call {
             Call::Join => "join",
             Call::ToNamed => "to_named",
             Call::ToPlain => "to_plain",
+            Call::ReadyStart => "ready_start",
+            Call::CompareReady => "compare_ready",
         }
     }
 
@@ -56,8 +62,10 @@ impl Call {
     pub fn refusals(self) -> &'static [u8] {
         match self {
             Call::Coarsest => &[1, 2, 17, 3, 4, 5, 16, 6, 8, 9, 10, 15],
-            Call::Compare => &[1, 2, 17, 3, 4, 5, 16, 6, 7, 18],
-            Call::Normalise | Call::EndStart | Call::ToNamed => &[1, 2, 17, 3, 4, 5, 16, 6, 15],
+            Call::Compare | Call::CompareReady => &[1, 2, 17, 3, 4, 5, 16, 6, 7, 18],
+            Call::Normalise | Call::EndStart | Call::ReadyStart | Call::ToNamed => {
+                &[1, 2, 17, 3, 4, 5, 16, 6, 15]
+            }
             Call::ToPlain => &[1, 2, 17, 3, 4, 5, 16, 6, 19, 15],
             Call::TestSimulation => &[1, 2, 17, 3, 4, 5, 16, 6, 8, 9, 10],
             Call::CheckPlan => &[1, 2, 17, 3, 4, 5, 16, 6, 8, 9, 10, 14],
@@ -70,14 +78,17 @@ impl Call {
     /// How many sheets the call takes: its first buffers.
     pub fn sheets(self) -> usize {
         match self {
-            Call::Compare | Call::Join => 2,
+            Call::Compare | Call::CompareReady | Call::Join => 2,
             _ => 1,
         }
     }
 
     /// Is the answer's first value a yes or no?
     pub fn says_yes_or_no(self) -> bool {
-        matches!(self, Call::Compare | Call::TestSimulation | Call::HandPlay)
+        matches!(
+            self,
+            Call::Compare | Call::CompareReady | Call::TestSimulation | Call::HandPlay
+        )
     }
 }
 

@@ -1,11 +1,11 @@
 //! Flows of many shapes and sizes.
 
 use reference::labels::{decimal, LabelledLts};
-use reference::lts::{Lts, Transition};
+use reference::lts::{Lts, State, Transition};
 use reference::prng::Prng;
-use reference::random;
 use reference::shapes::{cycle, loops, path, tree, Move};
 use reference::sheet::{MOST_ACTIONS, MOST_MOVES, MOST_PAGES};
+use reference::{random, ready_flows};
 
 /// The sizes at which words and limits begin and end.
 const EDGES: [usize; 6] = [31, 32, 63, 64, 65, 66];
@@ -72,6 +72,52 @@ pub fn for_plans(rng: &mut Prng, sizes: Sizes) -> Lts {
         moves.push((rng.below(n), rng.between(1, 2), rng.below(n)));
     }
     marked(rng, n, 2, &moves, 15)
+}
+
+/// A flow as above, or one in which many states have the same set of actions.
+pub fn for_ready(rng: &mut Prng, sizes: Sizes) -> Lts {
+    if rng.chance(40) {
+        return flow(rng, sizes);
+    }
+    let (n, m) = (states(rng, sizes), [1, 3, 5, MOST_ACTIONS][rng.below(4)]);
+    let (sets, marks) = (rng.between(1, 6), [0, 5, 30, 50][rng.below(4)]);
+    ready_flows::few_sets(rng, n, m, sets, marks)
+}
+
+/// The flow unfolded: some of its states come again, and all but the first in
+/// another order. Each copy of a state has its moves, each to some copy of the
+/// move's target. Where that makes too many moves it is the flow itself.
+pub fn unfolded(rng: &mut Prng, lts: &Lts) -> Lts {
+    let n = lts.states();
+    let more = rng.between(0, n.min(MOST_PAGES - n));
+    let mut copied: Vec<State> = (0..n).collect();
+    copied.extend((0..more).map(|_| rng.below(n)));
+    rng.shuffle(&mut copied[1..]);
+    let mut transitions = Vec::new();
+    for (source, &state) in copied.iter().enumerate() {
+        transitions.extend(lts.moves_of(state).iter().map(|step| {
+            let copies = (0..copied.len()).filter(|&at| copied[at] == step.target);
+            let copies: Vec<State> = copies.collect();
+            Transition {
+                source,
+                action: step.action,
+                target: copies[rng.below(copies.len())],
+            }
+        }));
+    }
+    if transitions.len() > MOST_MOVES {
+        return lts.clone();
+    }
+    let end_marks = copied.iter().map(|&state| lts.has_end_mark(state));
+    Lts::new(lts.actions(), end_marks.collect(), transitions)
+}
+
+/// The flow with one end mark more or less.
+pub fn other_mark(rng: &mut Prng, lts: &Lts) -> Lts {
+    let mut end_marks = lts.end_marks().to_vec();
+    let state = rng.below(end_marks.len());
+    end_marks[state] = !end_marks[state];
+    Lts::new(lts.actions(), end_marks, lts.transitions().to_vec())
 }
 
 /// The flow with these moves and with end marks in `marks` percent of the states.

@@ -12,7 +12,8 @@ use reference::relation::{Preorder, Relation};
 pub fn preorder(rng: &mut Prng, lts: &Lts) -> Preorder {
     let n = lts.states();
     match rng.below(6) {
-        0 | 1 => grid::end_start_of(lts),
+        0 => grid::end_start_of(lts),
+        1 => grid::ready_start_of(lts),
         2 => Preorder::closure(&Relation::full(n)),
         3 => Preorder::closure(&Relation::from_fn(n, |p, q| p <= q)),
         _ => random::preorder(rng, n),

@@ -11,7 +11,7 @@ use reference::plans::{Rounds, ENTRY_NUMBERS};
 use reference::prng::Prng;
 use reference::relation::{Preorder, Relation};
 use reference::sheet::{length, named_length, write_labelled};
-use reference::{compare, fixpoint, grid, random};
+use reference::{compare, fixpoint, grid, random, ready_flows};
 
 /// How many in a hundred sheets, starts and lengths are damaged.
 const DAMAGED: usize = 15;
@@ -39,18 +39,18 @@ pub fn case(call: Call, seed: u64) -> Case {
     match call {
         Call::Coarsest => coarsest(rng, &mut case),
         Call::Compare => {
-            two_sheets(rng, FEW, &mut case);
+            two_sheets(rng, &mut case, |rng| two_flows(rng, FEW));
+        }
+        Call::CompareReady => {
+            two_sheets(rng, &mut case, two_flows_for_ready);
         }
         Call::Normalise => {
-            let flow = flow_and_sheet(rng, MANY, &mut case);
+            let lts = flows::flow(rng, MANY);
+            let flow = labelled(rng, &lts, &mut case);
             let right = write_labelled(&flow).len();
             case.bytes.push(result_buffer(rng, right, 1));
         }
-        Call::EndStart => {
-            let flow = flow_and_sheet(rng, MANY, &mut case);
-            let right = 8 * grid::length(flow.lts().states());
-            case.bytes.push(result_buffer(rng, right, 8));
-        }
+        Call::EndStart | Call::ReadyStart => start_to_write(rng, &mut case),
         Call::TestSimulation => {
             let (lts, start) = flow_and_start(rng, MANY, &mut case);
             let claim = claim(rng, &lts, &start);
@@ -85,7 +85,7 @@ pub fn case(call: Call, seed: u64) -> Case {
             ];
         }
         Call::Join => {
-            let right = two_sheets(rng, MANY, &mut case);
+            let right = two_sheets(rng, &mut case, |rng| two_flows(rng, MANY));
             let out = join_buffer(rng, right);
             case.bytes.push(out);
         }
@@ -94,10 +94,15 @@ pub fn case(call: Call, seed: u64) -> Case {
     case
 }
 
-/// A flow of either kind; its sheet is the case's first buffer.
-fn flow_and_sheet(rng: &mut Prng, sizes: Sizes, case: &mut Case) -> LabelledLts {
-    let lts = flows::flow(rng, sizes);
-    labelled(rng, &lts, case)
+/// A sheet and a buffer for its start.
+fn start_to_write(rng: &mut Prng, case: &mut Case) {
+    let lts = match case.call {
+        Call::ReadyStart => flows::for_ready(rng, MANY),
+        _ => flows::flow(rng, MANY),
+    };
+    labelled(rng, &lts, case);
+    let right = 8 * grid::length(lts.states());
+    case.bytes.push(result_buffer(rng, right, 8));
 }
 
 /// The flow as one of either kind; its sheet is the case's first buffer.
@@ -159,13 +164,18 @@ fn coarsest(rng: &mut Prng, case: &mut Case) {
     case.bytes.extend([grid, names]);
 }
 
-/// Two sheets, of one kind or of two: unlike ones, like ones, and now and then
-/// too large together. Gives the length of the joined sheet, 0 if there is none.
-fn two_sheets(rng: &mut Prng, sizes: Sizes, case: &mut Case) -> usize {
+/// Two sheets, of one kind or of two: of two flows as they are made, and now and
+/// then too large together. Gives the length of the joined sheet, 0 if there is
+/// none.
+fn two_sheets(
+    rng: &mut Prng,
+    case: &mut Case,
+    two: impl FnOnce(&mut Prng) -> [LabelledLts; 2],
+) -> usize {
     let (flows, damaged) = match rng.below(100) {
         0..=2 => (at_limits(rng), 0),
         3 | 4 => (flows::labels_at_limit(rng), 0),
-        _ => (two_flows(rng, sizes), DAMAGED),
+        _ => (two(rng), DAMAGED),
     };
     for flow in &flows {
         case.bytes.push(sheet(rng, flow, damaged));
@@ -186,6 +196,28 @@ fn two_flows(rng: &mut Prng, sizes: Sizes) -> [LabelledLts; 2] {
         0 => flows::labelled(rng, [first, second]),
         _ => flows::labelled(rng, [second, first]),
     }
+}
+
+/// Two flows as above; two with few sets of actions; or a flow and its
+/// unfolding, as it is, with a few moves less or with another end mark. So each
+/// answer of both forms of compare comes often.
+pub fn two_flows_for_ready(rng: &mut Prng) -> [LabelledLts; 2] {
+    let flows = match rng.below(10) {
+        0..=2 => return two_flows(rng, FEW),
+        3..=5 => ready_flows::two(rng),
+        _ => {
+            let first = flows::for_ready(rng, FEW);
+            let second = flows::unfolded(rng, &first);
+            match rng.below(8) {
+                0 => [first, second],
+                1 => [second, first],
+                2 => [first, flows::other_mark(rng, &second)],
+                3 => [first, random::fewer(rng, &second, 3)],
+                _ => [random::fewer(rng, &second, 3), first],
+            }
+        }
+    };
+    ready_flows::kinds(rng, &flows)
 }
 
 /// Pages or moves that together are at the limit or just above.
@@ -433,7 +465,7 @@ fn plan_buffer(rng: &mut Prng, lts: &Lts, start: &Preorder, p: usize, q: usize) 
 
 #[cfg(test)]
 mod tests {
-    use super::{case, damage_entry, detours};
+    use super::{case, damage_entry, detours, two_flows_for_ready};
     use crate::case::Call;
     use crate::flows::{self, Sizes};
     use crate::grids;
@@ -442,6 +474,7 @@ mod tests {
     use reference::plans::{Rounds, Strategy};
     use reference::prng::Prng;
     use reference::relation::Preorder;
+    use reference::{compare, sheet};
     use std::collections::BTreeMap;
 
     /// No flow is large.
@@ -506,5 +539,49 @@ mod tests {
         assert!(accepted > 500, "{accepted}");
         assert!(unsound > 500, "{unsound}");
         assert!(deep > 80, "{deep}");
+    }
+    /// What the independent program says of two sheets: compare, then compare
+    /// ready; none where they are refused.
+    fn answers(first: &[u8], second: &[u8]) -> Option<[bool; 2]> {
+        let (yes, _) = compare::compare(first, second).ok()?;
+        let (ready, _) = compare::compare_ready(first, second).ok()?;
+        Some([yes, ready])
+    }
+
+    /// Of the pairs for compare ready many have each answer of both forms.
+    #[test]
+    fn pairs_for_ready() {
+        let mut count = [[0; 2]; 2];
+        for seed in 0..2_000 {
+            let rng = &mut Prng::new(seed);
+            let [first, second] = two_flows_for_ready(rng).map(|flow| sheet::write_labelled(&flow));
+            if let Some([yes, ready]) = answers(&first, &second) {
+                count[usize::from(yes)][usize::from(ready)] += 1;
+            }
+        }
+        let [[neither, ready_alone], [yes_alone, both]] = count;
+        assert_eq!(ready_alone, 0, "{count:?}");
+        assert!(neither > 200 && yes_alone > 200 && both > 200, "{count:?}");
+    }
+
+    /// A flow and its unfolding are alike, either way round.
+    #[test]
+    fn unfoldings() {
+        let (mut alike, mut larger) = (0, 0);
+        for seed in 0..500 {
+            let rng = &mut Prng::new(seed);
+            let lts = flows::for_ready(rng, SMALL);
+            let unfolded = flows::unfolded(rng, &lts);
+            let [first, second] = [&lts, &unfolded].map(sheet::write);
+            for (first, second) in [(&first, &second), (&second, &first)] {
+                let Some(answers) = answers(first, second) else {
+                    continue; // Too many moves together.
+                };
+                assert_eq!(answers, [true; 2], "{lts:?}");
+                alike += 1;
+            }
+            larger += usize::from(unfolded.states() > lts.states());
+        }
+        assert!(alike > 900 && larger > 300, "{alike} {larger}");
     }
 }

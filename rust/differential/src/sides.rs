@@ -5,6 +5,13 @@ use crate::memory::{Slot, SLOTS};
 use reference::refusal::Refusal;
 use reference::{compare, convert, game, grid, join, plans, sheet, turns};
 
+/// The outcome of both sides; panics where they differ.
+pub fn agreed<S: Slot>(case: &Case, slots: &mut [S; SLOTS]) -> Outcome {
+    let outcome = archive(case, slots);
+    assert_eq!(outcome, expected(case), "given {case:?}");
+    outcome
+}
+
 /// The archive's outcome, with the lent buffers lying in the given slots.
 pub fn archive<S: Slot>(case: &Case, slots: &mut [S; SLOTS]) -> Outcome {
     let mut bytes: Vec<&mut [u8]> = case
@@ -28,6 +35,11 @@ fn numbers_of(refusal: flow::Refusal) -> Refusal {
     }
 }
 
+/// The values of compare's answer, in either form.
+fn values_of(compared: flow::Compared) -> Vec<u64> {
+    vec![compared.yes.into(), compared.turns.into()]
+}
+
 /// The call itself.
 fn archive_answer(
     call: Call,
@@ -39,12 +51,15 @@ fn archive_answer(
             let c = flow::coarsest(sheet, start, turns, grid, names)?;
             Ok(vec![c.turns.into(), c.kept.into(), c.blocks.into()])
         }
-        (Call::Compare, [first, second], []) => {
-            let compared = flow::compare(first, second)?;
-            Ok(vec![compared.yes.into(), compared.turns.into()])
+        (Call::Compare, [first, second], []) => flow::compare(first, second).map(values_of),
+        (Call::CompareReady, [first, second], []) => {
+            flow::compare_ready(first, second).map(values_of)
         }
         (Call::Normalise, [sheet, out], []) => flow::normalise(sheet, out).map(|()| Vec::new()),
         (Call::EndStart, [sheet, grid], []) => flow::end_start(sheet, grid).map(|()| Vec::new()),
+        (Call::ReadyStart, [sheet, grid], []) => {
+            flow::ready_start(sheet, grid).map(|()| Vec::new())
+        }
         (Call::TestSimulation, [sheet, start, claim], []) => {
             flow::test_simulation(sheet, start, claim).map(|yes| vec![yes.into()])
         }
@@ -92,15 +107,17 @@ fn expected_answer(
             Ok(vec![turns as u64, kept as u64, blocks as u64])
         }
         (Call::Compare, [first, second], []) => {
-            let (yes, turns) = compare::compare(first, second)?;
-            Ok(vec![yes.into(), turns as u64])
+            compare::compare(first, second).map(|(yes, turns)| vec![yes.into(), turns as u64])
+        }
+        (Call::CompareReady, [first, second], []) => {
+            compare::compare_ready(first, second).map(|(yes, turns)| vec![yes.into(), turns as u64])
         }
         (Call::Normalise, [sheet, out], []) => sheet::normalise(sheet, out).map(|()| Vec::new()),
         (Call::EndStart, [sheet, grid], []) => {
-            let mut words = words(grid);
-            grid::end_start(sheet, &mut words)?;
-            *grid = carried(&words);
-            Ok(Vec::new())
+            written(grid, |words| grid::end_start(sheet, words)).map(|()| Vec::new())
+        }
+        (Call::ReadyStart, [sheet, grid], []) => {
+            written(grid, |words| grid::ready_start(sheet, words)).map(|()| Vec::new())
         }
         (Call::TestSimulation, [sheet, start, claim], []) => {
             let yes = grid::test_simulation(sheet, &words(start), &words(claim))?;
@@ -130,6 +147,17 @@ fn expected_answer(
         (Call::ToPlain, [sheet, out], []) => convert::to_plain(sheet, out).map(|()| Vec::new()),
         _ => panic!("a case with other buffers than its call takes"),
     }
+}
+
+/// Lets a call write a grid's words and carries them back, unless it refuses.
+fn written(
+    grid: &mut Vec<u8>,
+    call: impl FnOnce(&mut [u64]) -> Result<(), Refusal>,
+) -> Result<(), Refusal> {
+    let mut words = words(grid);
+    call(&mut words)?;
+    *grid = carried(&words);
+    Ok(())
 }
 
 /// The numbers that bytes carry. Bytes that are no whole numbers carry none,

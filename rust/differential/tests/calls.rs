@@ -42,6 +42,8 @@ calls! {
     join Join
     to_named ToNamed
     to_plain ToPlain
+    ready_start ReadyStart
+    compare_ready CompareReady
 }
 
 #[cfg(target_os = "linux")]

@@ -4,9 +4,9 @@
 mod cases;
 
 use cases::{calls_on, new_length, refused, right, wrong};
-use differential::case::{Call, Case, Outcome};
+use differential::case::{Call, Case};
 use differential::memory::{Heap, Slot, SLOTS};
-use differential::sides::{archive, expected};
+use differential::sides::{agreed, expected};
 use differential::{flows, make};
 use reference::labels::{decimal, Kind};
 use reference::lts::Lts;
@@ -62,17 +62,10 @@ fn case(call: Call, sheet: &[u8], length: usize) -> Case {
     }
 }
 
-/// What the case comes to on both sides.
-fn outcome<S: Slot>(case: &Case, slots: &mut [S; SLOTS]) -> Outcome {
-    let outcome = archive(case, slots);
-    assert_eq!(outcome, expected(case), "given {case:?}");
-    outcome
-}
-
 /// The sheet is converted to this one; with a buffer of any other length it is
 /// refused with 15.
 fn converts<S: Slot>(call: Call, sheet: &[u8], converted: &[u8], slots: &mut [S; SLOTS]) {
-    let outcome = outcome(&case(call, sheet, converted.len()), slots);
+    let outcome = agreed(&case(call, sheet, converted.len()), slots);
     assert_eq!(outcome.answer, Ok(vec![]), "{call:?} {sheet:?}");
     assert_eq!(outcome.bytes, [sheet, converted], "{call:?}");
     for length in other_lengths(sheet.len(), converted.len()) {
@@ -205,7 +198,7 @@ fn every_refusal_is_met() {
         let mut met = BTreeSet::new();
         for sheet in &sheets {
             for length in [new_length(call, sheet), 0] {
-                let outcome = outcome(&case(call, sheet, length), &mut Heap::slots());
+                let outcome = agreed(&case(call, sheet, length), &mut Heap::slots());
                 met.insert(outcome.answer.map_or_else(|refusal| refusal.number, |_| 0));
             }
         }
@@ -221,7 +214,7 @@ fn the_place_of_names_that_are_not_decimal() {
     let names: [&[u8]; 3] = [b"1", b"2", b"x"];
     let repeated = with(&PLAIN, &[(26, 1), (28, 1)]);
     let answer = |sheet: &[u8], length, slots: &mut _| {
-        outcome(&case(Call::ToPlain, sheet, length), slots).answer
+        agreed(&case(Call::ToPlain, sheet, length), slots).answer
     };
     let rows = [
         (named(&repeated, &names), 31, Err(Refusal::TWICE)),
@@ -320,7 +313,7 @@ fn other_calls_answer_alike() {
             for make in [right, wrong] {
                 let [one, other] = [&plain, &named].map(|sheets| {
                     let sheets = sheets.each_ref().map(Vec::as_slice);
-                    outcome(&make(call, &sheets[..call.sheets()], 3), slots)
+                    agreed(&make(call, &sheets[..call.sheets()], 3), slots)
                 });
                 assert_eq!(one.answer, other.answer, "{call:?} {plain:?}");
                 let read = call.sheets();

@@ -6,7 +6,7 @@ mod cases;
 use cases::{calls_on, refused, right, wrong};
 use differential::case::{Call, Case, Outcome};
 use differential::memory::{Heap, Slot, SLOTS};
-use differential::sides::{archive, carried16, expected};
+use differential::sides::{agreed, carried16};
 use differential::{flows, make};
 use flow::LONGEST_SHEET;
 use reference::labels::{decimal, Kind, LabelledLts};
@@ -45,9 +45,7 @@ fn only_names(pages: usize, labels: &[String]) -> Vec<u8> {
 
 /// What the case comes to on both sides.
 fn outcome(case: &Case) -> Outcome {
-    let outcome = archive(case, &mut Heap::slots());
-    assert_eq!(outcome, expected(case), "given {case:?}");
-    outcome
+    agreed(case, &mut Heap::slots())
 }
 
 fn case(call: Call, buffers: &[&[u8]], numbers: &[u64]) -> Case {
@@ -81,17 +79,16 @@ fn f3_in_every_other_call_on_one_sheet() {
     ];
     let sheet = &named(&turned, &[b"open_flock"])[..];
     let (all, kept) = (&grid([7; 3])[..], &grid([5, 7, 4])[..]);
+    let ready = &grid([5, 2, 5])[..];
     let blank = [0xa5; 46];
     answers(
         case(Call::Normalise, &[sheet, &blank], &[]),
         &[],
         &[&normal],
     );
-    answers(
-        case(Call::EndStart, &[sheet, &blank[..24]], &[]),
-        &[],
-        &[all],
-    );
+    for (call, start) in [(Call::EndStart, all), (Call::ReadyStart, ready)] {
+        answers(case(call, &[sheet, &blank[..24]], &[]), &[], &[start]);
+    }
     let coarsest = case(
         Call::Coarsest,
         &[sheet, all, &[], &blank[..24], &blank[..6]],
@@ -150,8 +147,10 @@ fn compare_and_join_by_name() {
         (named(&lts(1), &[b"buy", b"open"]), 0, joined(&three, 3)),
     ];
     for (second, yes, joined) in rows {
-        let compared = outcome(&case(Call::Compare, &[&first, &second], &[]));
-        assert_eq!(compared.answer.unwrap()[0], yes);
+        for call in [Call::Compare, Call::CompareReady] {
+            let compared = outcome(&case(call, &[&first, &second], &[]));
+            assert_eq!(compared.answer.unwrap()[0], yes);
+        }
         let out = vec![0xa5; joined.len() + 3];
         let after = [&joined[..], &[0xa5; 3]].concat();
         let join = case(Call::Join, &[&first, &second, &out], &[]);
@@ -338,9 +337,8 @@ fn the_place_of_too_many_names() {
     }
 }
 
-/// Other action numbers with the names carried along change no yes.
-#[test]
-fn renumbering_changes_no_yes() {
+/// Other action numbers with the names carried along change no yes of the call.
+fn renumbering_changes_no_yes_of(call: Call) {
     let sizes = flows::Sizes { large: 0, edges: 0 };
     let rng = &mut Prng::new(9_000_000);
     let mut count = [0; 2];
@@ -351,7 +349,7 @@ fn renumbering_changes_no_yes() {
         let known = |label: &String| first.labels().contains(label);
         let compared = |first: &LabelledLts, second: &LabelledLts| {
             let sheets = [first, second].map(sheet::write_labelled);
-            outcome(&case(Call::Compare, &[&sheets[0], &sheets[1]], &[])).answer
+            outcome(&case(call, &[&sheets[0], &sheets[1]], &[])).answer
         };
         let Ok(answer) = compared(&first, &second) else {
             continue; // Too many moves or names.
@@ -367,6 +365,12 @@ fn renumbering_changes_no_yes() {
         count[answer[0] as usize] += 1;
     }
     assert!(count.iter().all(|&count| count > 300), "{count:?}");
+}
+
+#[test]
+fn renumbering_changes_no_yes() {
+    renumbering_changes_no_yes_of(Call::Compare);
+    renumbering_changes_no_yes_of(Call::CompareReady);
 }
 
 /// The case with the decimal-named twins of some of its plain sheets; none if

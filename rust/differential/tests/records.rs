@@ -77,7 +77,8 @@ fn a_sound_sheet_is_answered() {
         let outcomes = [archive(&case, &mut Heap::slots()), expected(&case)];
         assert!(outcomes[0].answer.is_ok(), "{:?}", outcomes[0]);
         assert_eq!(outcomes[0], outcomes[1]);
-        if call != Call::Compare {
+        let takes_more = case.bytes.len() > call.sheets();
+        if takes_more {
             let case = wrong(call, sheets, 2);
             let outcome = archive(&case, &mut Heap::slots());
             assert!(outcome.answer.is_err(), "{outcome:?}");

@@ -1,4 +1,4 @@
-//! The eleven symbols of the archive, and one safe function for each.
+//! The thirteen symbols of the archive, and one safe function for each.
 //!
 //! A lent slice passes as its pointer and its length. The calls read and write
 //! no byte outside the slices, keep no pointer and hold no state, so the
@@ -25,6 +25,12 @@ extern "C" {
         second: *const u8,
         second_len: usize,
     ) -> u64;
+    fn flow_compare_ready(
+        first: *const u8,
+        first_len: usize,
+        second: *const u8,
+        second_len: usize,
+    ) -> u64;
     fn flow_join(
         first: *const u8,
         first_len: usize,
@@ -37,6 +43,7 @@ extern "C" {
     fn flow_to_named(sheet: *const u8, sheet_len: usize, out: *mut u8, out_len: usize) -> u64;
     fn flow_to_plain(sheet: *const u8, sheet_len: usize, out: *mut u8, out_len: usize) -> u64;
     fn flow_end_start(sheet: *const u8, sheet_len: usize, grid: *mut u8, grid_len: usize) -> u64;
+    fn flow_ready_start(sheet: *const u8, sheet_len: usize, grid: *mut u8, grid_len: usize) -> u64;
     fn flow_test_simulation(
         sheet: *const u8,
         sheet_len: usize,
@@ -101,6 +108,10 @@ pub fn compare(first: &[u8], second: &[u8]) -> u64 {
     unsafe { flow_compare(first.as_ptr(), first.len(), second.as_ptr(), second.len()) }
 }
 
+pub fn compare_ready(first: &[u8], second: &[u8]) -> u64 {
+    unsafe { flow_compare_ready(first.as_ptr(), first.len(), second.as_ptr(), second.len()) }
+}
+
 pub fn join(first: &[u8], second: &[u8], out: &mut [u8]) -> u64 {
     unsafe {
         flow_join(
@@ -128,6 +139,10 @@ pub fn to_plain(sheet: &[u8], out: &mut [u8]) -> u64 {
 
 pub fn end_start(sheet: &[u8], grid: &mut [u8]) -> u64 {
     unsafe { flow_end_start(sheet.as_ptr(), sheet.len(), grid.as_mut_ptr(), grid.len()) }
+}
+
+pub fn ready_start(sheet: &[u8], grid: &mut [u8]) -> u64 {
+    unsafe { flow_ready_start(sheet.as_ptr(), sheet.len(), grid.as_mut_ptr(), grid.len()) }
 }
 
 pub fn test_simulation(sheet: &[u8], start: &[u8], claim: &[u8]) -> u64 {

@@ -48,6 +48,12 @@
 //! [`to_named`] turns a plain sheet into the named one with decimal names, and
 //! [`to_plain`] goes back; neither moves a record.
 //!
+//! # The same actions too
+//!
+//! Under the end start a page with more actions can follow a dead end. The ready
+//! start relates only pages whose moves have the same set of actions:
+//! [`ready_start`] writes it, and [`compare_ready`] compares with it.
+//!
 //! # Panics
 //!
 //! The archive packs an answer into one number. A number that stands for no
@@ -69,7 +75,7 @@ pub use convert::{to_named, to_named_into, to_plain, to_plain_into};
 pub use grid::Grid;
 pub use plan::{entries, Entry, ENTRY_BYTES};
 pub use refusal::Refusal;
-pub use sheet::{labels, pages, LONGEST_SHEET};
+pub use sheet::{labels, moves, pages, Move, LONGEST_SHEET};
 
 use packing::Packed;
 
@@ -84,7 +90,7 @@ pub struct Counts {
     pub blocks: u16,
 }
 
-/// What compare finds.
+/// What compare finds, in either form.
 #[derive(Clone, Copy, PartialEq, Eq, Debug)]
 pub struct Compared {
     /// Is (page 0 of the first, page 0 of the second) kept?
@@ -177,7 +183,40 @@ pub fn coarsest(
 /// # Ok::<(), flow::Refusal>(())
 /// ```
 pub fn compare(first: &[u8], second: &[u8]) -> Result<Compared, Refusal> {
-    let mut packed = Packed::new("flow_compare", archive::compare(first, second))?;
+    compared("flow_compare", archive::compare(first, second))
+}
+
+/// Compare ready: [`compare`] with the ready start of the joined flow in the
+/// place of its end start. Says whether page 0 of the second can follow page 0
+/// of the first in everything and always with the same set of actions, and the
+/// turns made. A yes of this form is a yes of compare too.
+///
+/// Refuses as compare does: with 1 to 6, 16 and 17 for the first sheet, then
+/// for the second, then 7 and 18.
+///
+/// ```
+/// let f1 = [1, 0, 0, 0, 0, 0, 0, 0, 0, 0]; // one page, no moves
+/// let one_loop = [1, 0, 1, 0, 1, 0, 0, 0, 1, 0, 1, 0, 0, 0, 0, 0];
+/// // The loop has nothing to answer, but an action more than the dead end.
+/// assert!(flow::compare(&f1, &one_loop)?.yes);
+/// assert!(!flow::compare_ready(&f1, &one_loop)?.yes);
+/// // Two pages that move to each other have the loop's action for ever.
+/// let two = [
+///     2, 0, 1, 0, 2, 0, // two pages, one action, two moves
+///     0, 0, 1, 0, 0, 0, 2, 0, // the pages
+///     1, 0, 1, 0, 0, 0, 1, 0, 0, 0, 0, 0, // the moves
+/// ];
+/// assert!(flow::compare(&one_loop, &two)?.yes);
+/// assert!(flow::compare_ready(&one_loop, &two)?.yes);
+/// # Ok::<(), flow::Refusal>(())
+/// ```
+pub fn compare_ready(first: &[u8], second: &[u8]) -> Result<Compared, Refusal> {
+    compared("flow_compare_ready", archive::compare_ready(first, second))
+}
+
+/// What a result of compare says, in either form.
+fn compared(symbol: &'static str, result: u64) -> Result<Compared, Refusal> {
+    let mut packed = Packed::new(symbol, result)?;
     let compared = Compared {
         yes: packed.yes(),
         turns: packed.number(16) as u16,
@@ -256,6 +295,34 @@ pub fn normalise(sheet: &[u8], out: &mut [u8]) -> Result<(), Refusal> {
 /// ```
 pub fn end_start(sheet: &[u8], grid: &mut [u8]) -> Result<(), Refusal> {
     Packed::new("flow_end_start", archive::end_start(sheet, grid))?.end(())
+}
+
+/// Ready start: writes the grid that holds (p, q) if the end start does and the
+/// actions of p's moves are exactly those of q's. Two pages without moves have
+/// the same set, the empty one.
+///
+/// Refuses with 1 to 6, 16 and 17 for the sheet, then 15.
+///
+/// ```
+/// // Pages 0 to 4. Page 0 has action 1, page 1 has 1 and 2, page 2 has 2, and
+/// // the others have none.
+/// let sheet = [
+///     5, 0, 2, 0, 4, 0, // five pages, two actions, four moves
+///     0, 0, 1, 0, 0, 0, 2, 0, 0, 0, 4, 0, 0, 0, 0, 0, 0, 0, 0, 0, // the pages
+///     1, 0, 3, 0, 0, 0, // 0 -1-> 3
+///     1, 0, 3, 0, 3, 0, 2, 0, 4, 0, 0, 0, // 1 -1-> 3, 1 -2-> 4
+///     2, 0, 4, 0, 0, 0, // 2 -2-> 4
+/// ];
+/// let mut start = flow::Grid::new(5);
+/// flow::ready_start(&sheet, start.bytes_mut())?;
+/// assert!(!start.holds(0, 1) && !start.holds(1, 0)); // page 1 has one more
+/// assert!(!start.holds(0, 2) && !start.holds(2, 0)); // as many, but others
+/// assert!(start.holds(3, 4) && start.holds(4, 3)); // without moves
+/// assert!((0..5).all(|page| start.holds(page, page)));
+/// # Ok::<(), flow::Refusal>(())
+/// ```
+pub fn ready_start(sheet: &[u8], grid: &mut [u8]) -> Result<(), Refusal> {
+    Packed::new("flow_ready_start", archive::ready_start(sheet, grid))?.end(())
 }
 
 /// Test simulation: is the claimed grid a simulation inside the start?

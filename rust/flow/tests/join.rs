@@ -1,7 +1,7 @@
 //! Join beside compare: what coarsest finds on the joined sheet is what
-//! compare says.
+//! compare says, in either form.
 
-use flow::{Grid, Refusal, LONGEST_SHEET};
+use flow::{Compared, Grid, Refusal, LONGEST_SHEET};
 use reference::labels::LabelledLts;
 use reference::lts::Lts;
 use reference::prng::Prng;
@@ -37,8 +37,12 @@ fn sheets(rng: &mut Prng, flows: &[Lts; 2]) -> [Vec<u8>; 2] {
     })
 }
 
-#[test]
-fn coarsest_on_the_joined_sheet_is_compare() -> Result<(), Refusal> {
+/// The call that writes a start, and the form of compare that uses it.
+type Start = fn(&[u8], &mut [u8]) -> Result<(), Refusal>;
+type Compare = fn(&[u8], &[u8]) -> Result<Compared, Refusal>;
+
+/// Coarsest from the joined sheet's start says what the form of compare says.
+fn coarsest_is(write_start: Start, compare: Compare) -> Result<(), Refusal> {
     let mut rng = Prng::new(14);
     let mut answers = [0; 2];
     for _ in 0..4_000 {
@@ -51,16 +55,26 @@ fn coarsest_on_the_joined_sheet_is_compare() -> Result<(), Refusal> {
         let first = flows[0].states();
         let pages = first + flows[1].states();
         let mut start = Grid::new(pages);
-        flow::end_start(&joined, start.bytes_mut())?;
+        write_start(&joined, start.bytes_mut())?;
         let (mut kept, mut names) = (Grid::new(pages), vec![0; 2 * pages]);
         let counts = flow::coarsest(&joined, start.bytes(), &[], kept.bytes_mut(), &mut names)?;
-        let compared = flow::compare(&sheets[0], &sheets[1])?;
+        let compared = compare(&sheets[0], &sheets[1])?;
         assert_eq!(kept.holds(0, first), compared.yes);
         assert_eq!(counts.turns, compared.turns);
         answers[usize::from(compared.yes)] += 1;
     }
     assert!(answers.iter().all(|&count| count > 500), "{answers:?}");
     Ok(())
+}
+
+#[test]
+fn coarsest_on_the_joined_sheet_is_compare() -> Result<(), Refusal> {
+    coarsest_is(flow::end_start, flow::compare)
+}
+
+#[test]
+fn coarsest_from_the_ready_start_is_compare_ready() -> Result<(), Refusal> {
+    coarsest_is(flow::ready_start, flow::compare_ready)
 }
 
 #[test]

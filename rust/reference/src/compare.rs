@@ -4,6 +4,7 @@ use crate::grid;
 use crate::labels::{Kind, LabelledLts};
 use crate::lts::{Action, Lts, Transition};
 use crate::refusal::Refusal;
+use crate::relation::Preorder;
 use crate::sheet;
 use crate::turns;
 
@@ -74,11 +75,27 @@ fn side_by_side(
 /// Compare: does page 0 of the second flow simulate page 0 of the first, and
 /// in how many turns is that found?
 pub fn compare(first: &[u8], second: &[u8]) -> Result<(bool, usize), Refusal> {
+    compare_from(first, second, grid::end_start_of)
+}
+
+/// Compare ready: the same with the ready start of the joined flow, so that
+/// only pages with the same actions are related.
+pub fn compare_ready(first: &[u8], second: &[u8]) -> Result<(bool, usize), Refusal> {
+    compare_from(first, second, grid::ready_start_of)
+}
+
+/// Is page 0 of the second flow kept for page 0 of the first under the start
+/// that the joined flow has, and after how many turns?
+fn compare_from(
+    first: &[u8],
+    second: &[u8],
+    start_of: fn(&Lts) -> Preorder,
+) -> Result<(bool, usize), Refusal> {
     let first = sheet::read_labelled(first)?;
     let second = sheet::read_labelled(second)?;
     let joined = join_labelled(&first, &second)?;
     let joined = joined.lts();
-    let outcome = turns::run(joined, &grid::end_start_of(joined), &[]);
+    let outcome = turns::run(joined, &start_of(joined), &[]);
     let kept = outcome.kept.contains(0, first.lts().states());
     Ok((kept, outcome.turns))
 }

@@ -1,10 +1,11 @@
 //! Grids: relations carried as 64-bit words, and the calls on them.
 
-use crate::lts::Lts;
+use crate::lts::{Action, Lts};
 use crate::refusal::Refusal;
 use crate::relation::{Preorder, Relation};
 use crate::sheet;
 use crate::state_set::StateSet;
+use std::collections::BTreeSet;
 
 /// w, the words of one row for `n` states.
 pub fn words_per_row(n: usize) -> usize {
@@ -53,6 +54,16 @@ pub fn end_start_of(lts: &Lts) -> Preorder {
     Preorder::of_mark(lts.states(), |p| lts.has_end_mark(p))
 }
 
+/// The ready start of a flow: (p, q) if the end start holds it and the moves
+/// of p have exactly the actions that those of q have.
+pub fn ready_start_of(lts: &Lts) -> Preorder {
+    let n = lts.states();
+    let end_start = end_start_of(lts);
+    let actions: Vec<BTreeSet<Action>> = (0..n).map(|p| lts.actions_of(p)).collect();
+    let holds = |p, q| end_start.contains(p, q) && actions[p] == actions[q];
+    Preorder::new(Relation::from_fn(n, holds)).expect("a preorder")
+}
+
 /// Is the relation a simulation over the flow?
 pub fn is_simulation(lts: &Lts, relation: &Relation) -> bool {
     relation.pairs().all(|(p, q)| {
@@ -67,11 +78,26 @@ pub fn is_simulation(lts: &Lts, relation: &Relation) -> bool {
 /// End start: writes the end start of the sheet's flow into the grid. A
 /// refusal leaves the grid as it is.
 pub fn end_start(sheet: &[u8], grid: &mut [u64]) -> Result<(), Refusal> {
+    write_start(sheet, grid, end_start_of)
+}
+
+/// Ready start: writes the ready start of the sheet's flow into the grid. A
+/// refusal leaves the grid as it is.
+pub fn ready_start(sheet: &[u8], grid: &mut [u64]) -> Result<(), Refusal> {
+    write_start(sheet, grid, ready_start_of)
+}
+
+/// Writes the start that the sheet's flow has into a grid of its length.
+fn write_start(
+    sheet: &[u8],
+    grid: &mut [u64],
+    start_of: fn(&Lts) -> Preorder,
+) -> Result<(), Refusal> {
     let lts = sheet::read(sheet)?;
     if grid.len() != length(lts.states()) {
         return Err(Refusal::BUFFER);
     }
-    grid.copy_from_slice(&write(end_start_of(&lts).relation()));
+    grid.copy_from_slice(&write(start_of(&lts).relation()));
     Ok(())
 }
 

@@ -2,9 +2,9 @@
 //!
 //! Written only from document 01 (the scope: sheets, grids, turns, plans), from
 //! requests L1 (which record is off its chain), L2 (actions by name), L3 (old
-//! sheets to named ones and back) and L8 (the shortest plan) of document 02 and
-//! from document 004 (the base algorithm). It aims at being plainly right rather
-//! than fast.
+//! sheets to named ones and back), L6 (alike means the same buttons too) and L8
+//! (the shortest plan) of document 02 and from document 004 (the base
+//! algorithm). It aims at being plainly right rather than fast.
 //! Names: a page is a [`lts::State`], a move is a [`lts::Transition`], a turn
 //! list is a schedule, the name of a block is its representative, the name of an
 //! action is its label, and a plan is a [`plans::Strategy`] made of
@@ -17,12 +17,14 @@
 //! |---|---|
 //! | normalise | [`sheet::normalise`] |
 //! | end start | [`grid::end_start`] |
+//! | ready start | [`grid::ready_start`] |
 //! | test simulation | [`grid::test_simulation`] |
 //! | coarsest | [`turns::coarsest`] |
 //! | check plan | [`plans::check_plan`] |
 //! | write plan | [`plans::write_plan`] |
 //! | hand play | [`game::hand_play`] |
 //! | compare | [`compare::compare`] |
+//! | compare ready | [`compare::compare_ready`] |
 //! | join | [`join::join`] |
 //! | to named | [`convert::to_named`] |
 //! | to plain | [`convert::to_plain`] |
@@ -43,6 +45,7 @@ pub mod plan_depths;
 pub mod plans;
 pub mod prng;
 pub mod random;
+pub mod ready_flows;
 pub mod refusal;
 pub mod relation;
 pub mod report;

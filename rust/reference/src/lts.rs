@@ -1,6 +1,7 @@
 //! Labelled transition systems, called flows in document 01.
 
 use crate::state_set::{StateSet, MOST_STATES};
+use std::collections::BTreeSet;
 
 /// A state, called a page in document 01.
 pub type State = usize;
@@ -99,6 +100,11 @@ impl Lts {
     /// The transitions that leave `p`, by action, then target.
     pub fn moves_of(&self, p: State) -> &[Transition] {
         &self.transitions[self.rows[p]..self.rows[p + 1]]
+    }
+
+    /// The actions of the transitions that leave `p`.
+    pub fn actions_of(&self, p: State) -> BTreeSet<Action> {
+        self.moves_of(p).iter().map(|t| t.action).collect()
     }
 
     /// The transitions that leave `q` with action `a`, by target.

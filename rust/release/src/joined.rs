@@ -1,19 +1,29 @@
 //! The joined flow of a site and its rules, and the proved calls on it.
 
-use flow::{Compared, Entry, Grid, Pair, Refusal, ENTRY_BYTES, LONGEST_SHEET};
+use crate::form::Form;
+use flow::{Compared, Entry, Grid, Move, Pair, Refusal, ENTRY_BYTES, LONGEST_SHEET};
 use std::ops::Range;
 
-/// The joined flow of two sheets that compare has read.
+/// The joined flow of two sheets that compare has read, in either form.
 pub struct Joined {
+    pub form: Form,
     sheet: Vec<u8>,
     /// The names of its actions, that of action 1 first.
     pub labels: Vec<String>,
-    /// The end start.
+    /// The start that the form uses.
     start: Grid,
     /// The start that holds each page with itself alone.
     diagonal: Grid,
     /// The pages that come from the rules' sheet, behind the site's.
     pub rules: Range<u16>,
+}
+
+/// An action of the joined flow.
+#[derive(Clone, PartialEq, Eq, Debug)]
+pub struct Action {
+    pub number: u16,
+    /// Its name.
+    pub label: String,
 }
 
 /// What it means that a call refuses here.
@@ -23,22 +33,38 @@ fn unexpected(call: &'static str) -> impl Fn(Refusal) -> String {
 
 impl Joined {
     /// Joins two sheets.
-    pub fn new(site: &[u8], rules: &[u8]) -> Result<Joined, String> {
+    pub fn new(form: Form, site: &[u8], rules: &[u8]) -> Result<Joined, String> {
         let mut sheet = vec![0; LONGEST_SHEET];
         let length = flow::join(site, rules, &mut sheet).map_err(unexpected("join"))?;
         sheet.truncate(length);
         let pages = |sheet: &[u8]| flow::pages(sheet).map_err(unexpected("normalise"));
         let rules = pages(site)?..pages(&sheet)?;
         let labels = flow::labels(&sheet).map_err(unexpected("normalise"))?;
-        let mut start = Grid::new(rules.end.into());
-        flow::end_start(&sheet, start.bytes_mut()).map_err(unexpected("end start"))?;
+        let start = start_of(form, &sheet, rules.end)?;
         Ok(Joined {
+            form,
             sheet,
             labels,
             start,
             diagonal: Grid::diagonal(rules.end.into()),
             rules,
         })
+    }
+
+    /// The start that a form uses.
+    pub fn start_of(&self, form: Form) -> Result<Grid, String> {
+        start_of(form, &self.sheet, self.rules.end)
+    }
+
+    /// Its moves, by page, action and target.
+    pub fn moves(&self) -> Result<Vec<Move>, String> {
+        flow::moves(&self.sheet).map_err(unexpected("normalise"))
+    }
+
+    /// The action with this number.
+    pub fn action(&self, number: u16) -> Action {
+        let label = self.labels[usize::from(number) - 1].clone();
+        Action { number, label }
     }
 
     /// The pair that compare is about: page 0 of each sheet.
@@ -94,4 +120,12 @@ impl Joined {
             Err(refusal) => Err(unexpected("check plan")(refusal)),
         }
     }
+}
+
+/// The start that a form uses, on a sheet of so many pages.
+fn start_of(form: Form, sheet: &[u8], pages: u16) -> Result<Grid, String> {
+    let mut start = Grid::new(pages.into());
+    form.write_start(sheet, start.bytes_mut())
+        .map_err(unexpected(form.start_name()))?;
+    Ok(start)
 }

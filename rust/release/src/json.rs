@@ -1,6 +1,8 @@
 //! A verdict as one JSON object on one line.
 
+use crate::joined::Action;
 use crate::story::{Reply, Step, Why};
+use crate::unlike::Unlike;
 use crate::verdict::{Reason, Verdict};
 use flow::Entry;
 
@@ -63,20 +65,41 @@ fn step((at, step): (usize, &Step)) -> String {
     ];
     match &step.why {
         Why::EndMark => fields.push(("why", string("end mark"))),
+        Why::Unlike(Unlike {
+            end_mark,
+            also,
+            not,
+        }) => {
+            let actions = |actions: &[Action]| array(actions.iter().map(|own| object(&named(own))));
+            fields.extend([
+                ("why", string("outside the ready start")),
+                ("end mark", end_mark.to_string()),
+                ("also", actions(also)),
+                ("not", actions(not)),
+            ]);
+        }
         Why::Move {
             action,
-            label,
             target,
             replies,
-        } => fields.extend([
-            ("why", string("move")),
-            ("action", action.to_string()),
-            ("label", string(label)),
-            ("target", target.to_string()),
-            ("replies", array(replies.iter().map(reply))),
-        ]),
+        } => {
+            fields.push(("why", string("move")));
+            fields.extend(named(action));
+            fields.extend([
+                ("target", target.to_string()),
+                ("replies", array(replies.iter().map(reply))),
+            ]);
+        }
     }
     object(&fields)
+}
+
+/// An action's number and name.
+fn named(action: &Action) -> [(&'static str, String); 2] {
+    [
+        ("action", action.number.to_string()),
+        ("label", string(&action.label)),
+    ]
 }
 
 fn reply(reply: &Reply) -> String {

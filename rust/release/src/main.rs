@@ -1,9 +1,11 @@
-//! `release [--entries] [--json] SITE RULES`: may the site be released under
-//! its access rules?
+//! `release [--ready] [--entries] [--json] SITE RULES`: may the site be released
+//! under its access rules?
 //!
 //! SITE and RULES are files with one sheet each, plain or named. The answer
 //! comes from proved calls alone; of the sheets the tool itself takes no more
-//! than the count of pages and the actions' names.
+//! than the count of pages and the actions' names. With `--ready` its story also
+//! takes the moves of the joined sheet, to say by which actions two pages differ;
+//! a proved call confirms each action that is told so.
 //!
 //! | Status | First line | When |
 //! |---|---|---|
@@ -19,20 +21,30 @@
 //! flow. With `--json` the same content is one JSON object on one line, a
 //! failure's line too; it has the joined flow's action numbers beside the
 //! names, and the rounds also with the entries.
+//!
+//! With `--ready` compare ready is asked in the place of compare: a page of the
+//! rules can follow one of the site only if both have the same set of actions.
+//! The plan is then one from the ready start, and where a step of the story is
+//! about a pair outside that start it tells how the two pages differ: by the end
+//! mark, by the actions that the rules' page has also and by those that it has
+//! not.
 
 #![deny(unsafe_code)]
 
+mod form;
 mod joined;
 mod json;
 mod replies;
 mod story;
 mod text;
 mod tool;
+mod unlike;
 mod verdict;
 
 #[cfg(test)]
 mod tests;
 
+use form::Form;
 use std::ffi::OsString;
 use std::io::{self, Write};
 use std::path::PathBuf;
@@ -44,13 +56,14 @@ use verdict::Verdict;
 struct Request {
     site: PathBuf,
     rules: PathBuf,
+    form: Form,
     entries: bool,
     json: bool,
 }
 
 fn main() -> ExitCode {
     let Some(request) = request(std::env::args_os().skip(1)) else {
-        complain("usage: release [--entries] [--json] SITE RULES");
+        complain("usage: release [--ready] [--entries] [--json] SITE RULES");
         return ExitCode::from(NO_ANSWER);
     };
     let found = find(&request);
@@ -76,9 +89,11 @@ fn main() -> ExitCode {
 
 /// The words of the call; none if there is a wrong one.
 fn request(words: impl Iterator<Item = OsString>) -> Option<Request> {
-    let (mut paths, mut entries, mut json) = (Vec::new(), false, false);
+    let (mut paths, mut form) = (Vec::new(), Form::Older);
+    let (mut entries, mut json) = (false, false);
     for word in words {
         match word.to_str() {
+            Some("--ready") => form = Form::Ready,
             Some("--entries") => entries = true,
             Some("--json") => json = true,
             Some(option) if option.starts_with('-') => return None,
@@ -89,6 +104,7 @@ fn request(words: impl Iterator<Item = OsString>) -> Option<Request> {
     Some(Request {
         site,
         rules,
+        form,
         entries,
         json,
     })
@@ -98,5 +114,5 @@ fn request(words: impl Iterator<Item = OsString>) -> Option<Request> {
 /// none.
 fn find(request: &Request) -> Result<Verdict, String> {
     let (site, rules) = (tool::read(&request.site)?, tool::read(&request.rules)?);
-    tool::taken(|| verdict::judge(&site, &rules, request.entries))
+    tool::taken(|| verdict::judge(&site, &rules, request.form, request.entries))
 }

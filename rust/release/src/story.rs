@@ -1,7 +1,9 @@
 //! A plan told as a game: the site moves, the rules reply.
 
-use crate::joined::Joined;
+use crate::form::Form;
+use crate::joined::{Action, Joined};
 use crate::replies::Replies;
+use crate::unlike::{Pages, Unlike};
 use flow::Entry;
 use std::collections::{HashMap, HashSet};
 
@@ -17,14 +19,14 @@ pub struct Step {
 /// Why a page of the rules cannot follow one of the site.
 #[derive(Clone, PartialEq, Eq, Debug)]
 pub enum Why {
-    /// The site's page has the end mark, the rules' has not.
+    /// The older form: the pair is outside the end start. The site's page has
+    /// the end mark, the rules' has not.
     EndMark,
+    /// The ready form: the pair is outside the ready start.
+    Unlike(Unlike),
     /// The site moves, and the rules lose with each reply.
     Move {
-        /// Its number in the joined flow.
-        action: u16,
-        /// Its name.
-        label: String,
+        action: Action,
         target: u16,
         replies: Vec<Reply>,
     },
@@ -48,26 +50,36 @@ pub fn tell(joined: &Joined, plan: &[Entry]) -> Result<Vec<Step>, String> {
         .map(|(at, (entry, _))| ((entry.p, entry.q), at + 1))
         .collect();
     let first = joined.rules.start;
-    let step = |(entry, pages): &(Entry, Vec<u16>)| Step {
-        site: entry.p,
-        rules: entry.q - first,
-        why: match entry.a {
-            0 => Why::EndMark, // The pair is outside the end start.
-            action => Why::Move {
-                action,
-                label: joined.labels[usize::from(action) - 1].clone(),
-                target: entry.t,
-                replies: pages
-                    .iter()
-                    .map(|&r| Reply {
-                        page: r - first,
-                        step: number[&(entry.t, r)],
-                    })
-                    .collect(),
-            },
-        },
+    let unlike = match joined.form {
+        Form::Older => None,
+        Form::Ready => Some(Pages::new(joined)?),
     };
-    Ok(needed.iter().map(step).collect())
+    let why = |entry: Entry, pages: &[u16]| match entry.a {
+        // The pair is outside the start that the form uses.
+        0 => match &unlike {
+            None => Ok(Why::EndMark),
+            Some(pages) => pages.unlike(entry.p, entry.q).map(Why::Unlike),
+        },
+        action => Ok(Why::Move {
+            action: joined.action(action),
+            target: entry.t,
+            replies: pages
+                .iter()
+                .map(|&r| Reply {
+                    page: r - first,
+                    step: number[&(entry.t, r)],
+                })
+                .collect(),
+        }),
+    };
+    let step = |(entry, pages): &(Entry, Vec<u16>)| {
+        Ok(Step {
+            site: entry.p,
+            rules: entry.q - first,
+            why: why(*entry, pages)?,
+        })
+    };
+    needed.iter().map(step).collect()
 }
 
 /// The entries that the last one needs, last first, each with its replies.

@@ -1,8 +1,12 @@
 //! Verdicts and stories, against the independent program.
 
-use crate::joined::Joined;
+mod ready;
+
+use crate::form::Form;
+use crate::joined::{Action, Joined};
 use crate::story::{self, Reply, Step, Why};
 use crate::text;
+use crate::unlike::Unlike;
 use crate::verdict::{judge, Reason, Sheet, Verdict};
 use differential::flows::{self, Sizes};
 use flow::{Compared, Entry, Refusal};
@@ -10,12 +14,16 @@ use reference::labels::LabelledLts;
 use reference::lts::{Lts, Transition};
 use reference::plans::Rounds;
 use reference::prng::Prng;
+use reference::relation::Preorder;
 use reference::{compare, grid, random, sheet};
 use std::collections::HashSet;
 
+/// Both forms of compare.
+const FORMS: [Form; 2] = [Form::Older, Form::Ready];
+
 /// The rounds and the steps for two sheets; none where the verdict is open.
-fn closed(site: &[u8], rules: &[u8]) -> Option<(u16, Vec<Step>)> {
-    match judge(site, rules, false).unwrap() {
+fn closed(form: Form, site: &[u8], rules: &[u8]) -> Option<(u16, Vec<Step>)> {
+    match judge(site, rules, form, false).unwrap() {
         Verdict::Open { .. } => None,
         Verdict::Closed {
             rounds,
@@ -27,16 +35,21 @@ fn closed(site: &[u8], rules: &[u8]) -> Option<(u16, Vec<Step>)> {
 }
 
 /// The steps for two sheets; none where the verdict is open.
-fn steps(site: &[u8], rules: &[u8]) -> Option<Vec<Step>> {
-    closed(site, rules).map(|(_, steps)| steps)
+fn steps(form: Form, site: &[u8], rules: &[u8]) -> Option<Vec<Step>> {
+    closed(form, site, rules).map(|(_, steps)| steps)
+}
+
+/// The text for two sheets in the older form.
+fn told(site: &[u8], rules: &[u8]) -> String {
+    told_by(Form::Older, site, rules)
 }
 
 /// The text for two sheets.
-fn told(site: &[u8], rules: &[u8]) -> String {
-    text::lines(&judge(site, rules, false).unwrap())
+fn told_by(form: Form, site: &[u8], rules: &[u8]) -> String {
+    text::lines(&judge(site, rules, form, false).unwrap())
 }
 
-/// The text for two flows.
+/// The text for two flows in the older form.
 fn text(site: &Lts, rules: &Lts) -> String {
     told(&sheet::write(site), &sheet::write(rules))
 }
@@ -118,11 +131,13 @@ fn every_reply_and_no_other_page() {
     let site = marked(1, &Lts::of(3, 2, &[(0, 1, 1), (1, 2, 2)]));
     let rules = Lts::of(4, 2, &[(0, 1, 1), (0, 1, 3), (2, 2, 2), (3, 2, 0)]);
     let rules = marked(1, &marked(2, &rules));
-    let steps = steps(&sheet::write(&site), &sheet::write(&rules)).unwrap();
+    let steps = steps(Form::Older, &sheet::write(&site), &sheet::write(&rules)).unwrap();
     let step = |site, rules, why| Step { site, rules, why };
-    let moves = |action: u16, target, replies: &[(u16, usize)]| Why::Move {
-        action,
-        label: action.to_string(),
+    let moves = |number: u16, target, replies: &[(u16, usize)]| Why::Move {
+        action: Action {
+            number,
+            label: number.to_string(),
+        },
         target,
         replies: replies
             .iter()
@@ -147,52 +162,105 @@ fn every_reply_and_no_other_page() {
     assert_eq!(text(&site, &rules), told);
 }
 
+/// The start that the form uses.
+fn start_of(form: Form, lts: &Lts) -> Preorder {
+    match form {
+        Form::Older => grid::end_start_of(lts),
+        Form::Ready => grid::ready_start_of(lts),
+    }
+}
+
 /// The rounds of the joined flow.
-fn rounds_of(site: &LabelledLts, rules: &LabelledLts) -> Rounds {
+fn rounds_of(form: Form, [site, rules]: [&LabelledLts; 2]) -> Rounds {
     let joined = compare::join_labelled(site, rules).unwrap();
     let joined = joined.lts();
-    Rounds::of(joined, &grid::end_start_of(joined))
+    Rounds::of(joined, &start_of(form, joined))
+}
+
+/// Has the site's page the end mark, and the rules' has not?
+fn is_marked_alone([site, rules]: [&LabelledLts; 2], step: &Step) -> bool {
+    site.lts().has_end_mark(step.site.into()) && !rules.lts().has_end_mark(step.rules.into())
+}
+
+/// How the pages of a step differ: the actions that one of them has alone are
+/// those by name, in the order of the joined flow's numbers.
+fn unlike_of(flows: [&LabelledLts; 2], step: &Step) -> Unlike {
+    let labels_of = |flow: &LabelledLts, page: u16| -> Vec<String> {
+        let actions = flow.lts().actions_of(page.into());
+        let labels = actions.iter().map(|&action| &flow.labels()[action - 1]);
+        labels.cloned().collect()
+    };
+    let [site, rules] = [
+        labels_of(flows[0], step.site),
+        labels_of(flows[1], step.rules),
+    ];
+    let alone = |own: &[String], others: &[String]| -> Vec<Action> {
+        let joined = compare::joined_labels(flows[0].labels(), flows[1].labels());
+        (1..)
+            .zip(joined)
+            .filter(|(_, label)| own.contains(label) && !others.contains(label))
+            .map(|(number, label)| Action { number, label })
+            .collect()
+    };
+    Unlike {
+        end_mark: is_marked_alone(flows, step),
+        also: alone(&rules, &site),
+        not: alone(&site, &rules),
+    }
+}
+
+/// The pages that the rules can reply with to a step's move of the site, which
+/// is there.
+fn replies_to([site, rules]: [&LabelledLts; 2], step: &Step) -> Vec<u16> {
+    let Why::Move { action, target, .. } = &step.why else {
+        panic!("no move: {step:?}");
+    };
+    let number = usize::from(action.number);
+    assert_eq!(site.labels()[number - 1], action.label);
+    let own = Transition {
+        source: step.site.into(),
+        action: number,
+        target: usize::from(*target),
+    };
+    assert!(site.lts().has(own), "{step:?}");
+    let place = rules.labels().iter().position(|own| *own == action.label);
+    let replies = place.map_or(&[][..], |at| rules.lts().replies(step.rules.into(), at + 1));
+    replies.iter().map(|reply| reply.target as u16).collect()
 }
 
 /// Holds every step to the flows: the site's move is there, the replies are
 /// all that the rules have by its name, each is beaten by a later step; an end
-/// mark is there and not there; the pair is dropped; no pair is told twice, and
-/// none that no earlier step needs.
-fn is_right(site: &LabelledLts, rules: &LabelledLts, steps: &[Step]) {
-    let rounds = rounds_of(site, rules);
-    let place = |label: &String| rules.labels().iter().position(|own| own == label);
-    let (labels, site, rules) = (site.labels(), site.lts(), rules.lts());
+/// mark is there and not there, or the pages differ as they are told to; the
+/// pair is dropped; no pair is told twice, and none that no earlier step needs.
+fn is_right(form: Form, flows: [&LabelledLts; 2], steps: &[Step]) {
+    let (rounds, pages) = (rounds_of(form, flows), flows[0].lts().states());
     let pairs: Vec<(u16, u16)> = steps.iter().map(|step| (step.site, step.rules)).collect();
     assert_eq!(pairs.iter().collect::<HashSet<_>>().len(), pairs.len());
     let mut needed = HashSet::from([(0, 0)]);
     for (number, step) in (1..).zip(steps) {
-        let (p, q) = (usize::from(step.site), usize::from(step.rules));
         assert!(needed.contains(&(step.site, step.rules)), "{steps:?}");
-        assert!(rounds.falls_at(p, site.states() + q).is_some(), "{steps:?}");
-        match &step.why {
-            Why::EndMark => assert!(site.has_end_mark(p) && !rules.has_end_mark(q)),
-            Why::Move {
-                action,
-                label,
-                target,
-                replies,
-            } => {
-                assert_eq!(labels[usize::from(*action) - 1], *label);
-                let own = Transition {
-                    source: p,
-                    action: usize::from(*action),
-                    target: usize::from(*target),
-                };
-                assert!(site.has(own), "{steps:?}");
-                let pages = replies.iter().map(|reply| usize::from(reply.page));
-                let all = place(label).map_or(&[][..], |at| rules.replies(q, at + 1));
-                assert!(pages.eq(all.iter().map(|r| r.target)), "{steps:?}");
+        let falls = rounds.falls_at(step.site.into(), pages + usize::from(step.rules));
+        assert!(falls.is_some(), "{steps:?}");
+        match (form, &step.why) {
+            (Form::Older, Why::EndMark) => assert!(is_marked_alone(flows, step)),
+            (Form::Ready, Why::Unlike(unlike)) => {
+                assert_eq!((falls, unlike), (Some(0), &unlike_of(flows, step)));
+            }
+            (
+                _,
+                Why::Move {
+                    target, replies, ..
+                },
+            ) => {
+                let pages = replies.iter().map(|reply| reply.page);
+                assert!(pages.eq(replies_to(flows, step)), "{steps:?}");
                 for reply in replies {
                     assert!(reply.step > number, "{steps:?}");
                     assert_eq!(pairs[reply.step - 1], (*target, reply.page));
                     needed.insert((*target, reply.page));
                 }
             }
+            other => panic!("not of the form: {other:?}"),
         }
     }
     assert_eq!(needed.len(), pairs.len());
@@ -209,8 +277,8 @@ fn flows(rng: &mut Prng, sizes: Sizes) -> [LabelledLts; 2] {
     flows::labelled(rng, [site, rules])
 }
 
-/// The rounds that the steps themselves take: an end mark none, a move without
-/// reply one, any other one more than the longest of its replies.
+/// The rounds that the steps themselves take: a pair outside the start none, a
+/// move without reply one, any other one more than the longest of its replies.
 fn rounds_told(steps: &[Step]) -> u16 {
     let mut rounds = vec![0; steps.len()];
     for (at, step) in steps.iter().enumerate().rev() {
@@ -222,7 +290,26 @@ fn rounds_told(steps: &[Step]) -> u16 {
     rounds[0]
 }
 
-/// The rounds are the round in which the pair falls, and what the steps take.
+/// The rounds of a closed verdict on two flows, with the entries and without:
+/// the round in which the pair falls, and what the steps take. None where the
+/// verdict is another.
+fn rounds_held(form: Form, rng: &mut Prng, flows: [&LabelledLts; 2]) -> Option<u16> {
+    let sheets = flows.map(|flow| random::shuffled_labelled(rng, flow));
+    let verdict = |entries| judge(&sheets[0], &sheets[1], form, entries).unwrap();
+    let Verdict::Closed { rounds, reason, .. } = verdict(false) else {
+        return None;
+    };
+    let falls = rounds_of(form, flows).falls_at(0, flows[0].lts().states());
+    assert_eq!(falls, Some(rounds.into()));
+    let Reason::Story(steps) = reason else {
+        panic!("{reason:?}");
+    };
+    assert_eq!(rounds_told(&steps), rounds, "{steps:?}");
+    let same = |verdict| matches!(verdict, Verdict::Closed { rounds: own, .. } if own == rounds);
+    assert!(same(verdict(true)));
+    Some(rounds)
+}
+
 #[test]
 fn rounds_of_many_flows() {
     let sizes = Sizes {
@@ -236,23 +323,27 @@ fn rounds_of_many_flows() {
             true => flows(&mut rng, sizes),
             false => [(); 2].map(|()| LabelledLts::plain(flows::for_plans(&mut rng, sizes))),
         };
-        let sheets = [&site, &rules].map(|flow| random::shuffled_labelled(&mut rng, flow));
-        let verdict = |entries| judge(&sheets[0], &sheets[1], entries).unwrap();
-        let Verdict::Closed { rounds, reason, .. } = verdict(false) else {
-            continue;
-        };
-        let falls = rounds_of(&site, &rules).falls_at(0, site.lts().states());
-        assert_eq!(falls, Some(rounds.into()));
-        let Reason::Story(steps) = reason else {
-            panic!("{reason:?}");
-        };
-        assert_eq!(rounds_told(&steps), rounds, "{steps:?}");
-        let same =
-            |verdict| matches!(verdict, Verdict::Closed { rounds: own, .. } if own == rounds);
-        assert!(same(verdict(true)));
-        count[usize::from(rounds).min(5)] += 1;
+        if let Some(rounds) = rounds_held(Form::Older, &mut rng, [&site, &rules]) {
+            count[usize::from(rounds).min(5)] += 1;
+        }
     }
     assert!(count.iter().all(|&count| count > 20), "{count:?}");
+}
+
+/// The steps for two flows, none of them where the verdict is open; held to the
+/// independent program. None where the flows are too large together.
+fn story_held(form: Form, rng: &mut Prng, flows: [&LabelledLts; 2]) -> Option<Vec<Step>> {
+    let [site, rules] = flows.map(|flow| random::shuffled_labelled(rng, flow));
+    let (yes, _) = match form {
+        Form::Older => compare::compare(&site, &rules).ok()?,
+        Form::Ready => compare::compare_ready(&site, &rules).ok()?,
+    };
+    let told = steps(form, &site, &rules);
+    assert_eq!(told.is_none(), yes);
+    if let Some(steps) = &told {
+        is_right(form, flows, steps);
+    }
+    Some(told.unwrap_or_default())
 }
 
 #[test]
@@ -265,17 +356,10 @@ fn stories_of_many_flows() {
     let (mut open, mut longest, mut most_replies) = (0, 0, 0);
     for _ in 0..6_000 {
         let [site, rules] = flows(&mut rng, sizes);
-        let sheets = [&site, &rules].map(|flow| random::shuffled_labelled(&mut rng, flow));
-        let Ok((yes, _)) = compare::compare(&sheets[0], &sheets[1]) else {
-            continue; // Too many moves or names together.
-        };
-        let told = steps(&sheets[0], &sheets[1]);
-        assert_eq!(told.is_none(), yes);
-        let Some(steps) = told else {
-            open += 1;
+        let Some(steps) = story_held(Form::Older, &mut rng, [&site, &rules]) else {
             continue;
         };
-        is_right(&site, &rules, &steps);
+        open += usize::from(steps.is_empty());
         longest = longest.max(steps.len());
         for step in &steps {
             if let Why::Move { replies, .. } = &step.why {
@@ -294,22 +378,43 @@ fn a_long_story() {
         |n: usize| -> Vec<(usize, usize, usize)> { (0..n - 1).map(|p| (p, 1, p + 1)).collect() };
     let site = Lts::of(128, 1, &path(128));
     let rules = Lts::of(127, 1, &path(127));
-    let (rounds, steps) = closed(&sheet::write(&site), &sheet::write(&rules)).unwrap();
+    let sheets = [&site, &rules].map(sheet::write);
+    let (rounds, steps) = closed(Form::Older, &sheets[0], &sheets[1]).unwrap();
     assert_eq!((rounds, steps.len()), (127, 127));
     let [site, rules] = [site, rules].map(LabelledLts::plain);
-    is_right(&site, &rules, &steps);
+    is_right(Form::Older, [&site, &rules], &steps);
     // At the limits of pages and moves, with many replies.
     let mut rng = Prng::new(17);
     for _ in 0..5 {
         let site = random::forward(&mut rng, 128, 2, 10);
         let k = 1_024 - site.transitions().len();
         let rules = random::lts_exact(&mut rng, 128, 2, k, 30);
-        let sheets = [&site, &rules].map(sheet::write);
-        if let Some(steps) = self::steps(&sheets[0], &sheets[1]) {
-            let [site, rules] = [site, rules].map(LabelledLts::plain);
-            is_right(&site, &rules, &steps);
-        }
+        let [site, rules] = [site, rules].map(LabelledLts::plain);
+        assert!(story_held(Form::Older, &mut rng, [&site, &rules]).is_some());
     }
+}
+
+/// Where the verdict on two flows is closed, its entries are the independent
+/// program's plan. Is it closed?
+fn entries_held(form: Form, flows: [&LabelledLts; 2]) -> bool {
+    let sheets = flows.map(sheet::write_labelled);
+    let verdict = judge(&sheets[0], &sheets[1], form, true).unwrap();
+    let Verdict::Closed { reason, .. } = verdict else {
+        return false;
+    };
+    let joined = compare::join_labelled(flows[0], flows[1]).unwrap();
+    let (labels, joined) = (joined.labels().to_vec(), joined.lts());
+    let rounds = Rounds::of(joined, &start_of(form, joined));
+    let plan = rounds.strategy(joined, 0, flows[0].lts().states()).unwrap();
+    let entry = |e: &reference::plans::Entry| Entry {
+        p: e.p,
+        q: e.q,
+        a: e.a,
+        t: e.t,
+    };
+    let entries = plan.entries.iter().map(entry).collect();
+    assert_eq!(reason, Reason::Entries { labels, entries });
+    true
 }
 
 #[test]
@@ -319,24 +424,7 @@ fn entries_are_the_written_plan() {
     let mut closed = 0;
     for _ in 0..500 {
         let [site, rules] = flows(&mut rng, sizes);
-        let sheets = [&site, &rules].map(sheet::write_labelled);
-        let verdict = judge(&sheets[0], &sheets[1], true).unwrap();
-        let Verdict::Closed { reason, .. } = verdict else {
-            continue;
-        };
-        let joined = compare::join_labelled(&site, &rules).unwrap();
-        let (labels, joined) = (joined.labels().to_vec(), joined.lts());
-        let rounds = Rounds::of(joined, &grid::end_start_of(joined));
-        let plan = rounds.strategy(joined, 0, site.lts().states()).unwrap();
-        let entry = |e: &reference::plans::Entry| Entry {
-            p: e.p,
-            q: e.q,
-            a: e.a,
-            t: e.t,
-        };
-        let entries = plan.entries.iter().map(entry).collect();
-        assert_eq!(reason, Reason::Entries { labels, entries });
-        closed += 1;
+        closed += usize::from(entries_held(Form::Older, [&site, &rules]));
     }
     assert!(closed > 100, "{closed} are closed");
 }
@@ -346,35 +434,27 @@ fn refusals_name_their_sheet() {
     let good = sheet::write(&Lts::of(2, 1, &[(0, 1, 1)]));
     let mut bad = good.clone();
     bad[6] = 2;
-    let refused = |refusal, sheet| Ok(Verdict::Refused { refusal, sheet });
-    let page = Refusal::PageRecord;
-    assert_eq!(judge(&bad, &good, false), refused(page, Some(Sheet::First)));
-    assert_eq!(
-        judge(&good, &bad, false),
-        refused(page, Some(Sheet::Second))
-    );
-    assert_eq!(
-        judge(&bad, &good[..5], false),
-        refused(page, Some(Sheet::First))
-    );
+    let refused = |site: &[u8], rules: &[u8], refusal, sheet| {
+        for form in FORMS {
+            let verdict = judge(site, rules, form, false);
+            assert_eq!(verdict, Ok(Verdict::Refused { refusal, sheet }), "{form:?}");
+        }
+    };
+    let (first, second) = (Some(Sheet::First), Some(Sheet::Second));
+    refused(&bad, &good, Refusal::PageRecord, first);
+    refused(&good, &bad, Refusal::PageRecord, second);
+    refused(&bad, &good[..5], Refusal::PageRecord, first);
     let large = sheet::write(&Lts::of(255, 0, &[]));
-    assert_eq!(judge(&good, &large, false), refused(Refusal::Joined, None));
+    refused(&good, &large, Refusal::Joined, None);
     // A bad name, and too many of them together.
     let mut bad = named(&Lts::of(1, 1, &[]), &["open"]);
     bad[6] = b' ';
-    let (label, many) = (Refusal::Label, Refusal::TooManyLabels);
-    assert_eq!(
-        judge(&bad, &good[..5], false),
-        refused(label, Some(Sheet::First))
-    );
-    assert_eq!(
-        judge(&good, &bad, false),
-        refused(label, Some(Sheet::Second))
-    );
+    refused(&bad, &good[..5], Refusal::Label, first);
+    refused(&good, &bad, Refusal::Label, second);
     let other = named(&Lts::of(1, 1, &[]), &["open"]);
     let most = sheet::write(&Lts::of(1, 64, &[]));
-    assert_eq!(judge(&most, &other, false), refused(many, None));
-    assert_eq!(judge(&other, &most, false), refused(many, None));
+    refused(&most, &other, Refusal::TooManyLabels, None);
+    refused(&other, &most, Refusal::TooManyLabels, None);
 }
 
 /// Where both sheets have such a record, the first's is told.
@@ -391,15 +471,18 @@ fn refusals_name_their_record() {
     let lone = |record: u8, sheet: &str| {
         format!("refused 5: a record on no chain: record {record} ({sheet} sheet)\n")
     };
-    assert_eq!(told(&second, &third), lone(2, "first"));
-    assert_eq!(told(&third, &second), lone(3, "first"));
-    assert_eq!(told(&good, &second), lone(2, "second"));
-    assert_eq!(told(&good, &third), lone(3, "second"));
-    assert_eq!(
-        told(&twice, &both),
-        "refused 16: a record reached twice: record 2 (first sheet)\n"
-    );
-    assert_eq!(told(&both, &twice), lone(3, "first"));
+    for form in FORMS {
+        let told = |site: &[u8], rules: &[u8]| told_by(form, site, rules);
+        assert_eq!(told(&second, &third), lone(2, "first"));
+        assert_eq!(told(&third, &second), lone(3, "first"));
+        assert_eq!(told(&good, &second), lone(2, "second"));
+        assert_eq!(told(&good, &third), lone(3, "second"));
+        assert_eq!(
+            told(&twice, &both),
+            "refused 16: a record reached twice: record 2 (first sheet)\n"
+        );
+        assert_eq!(told(&both, &twice), lone(3, "first"));
+    }
 }
 
 /// What the proved calls would not give is a failure, and no story.
@@ -407,27 +490,29 @@ fn refusals_name_their_record() {
 fn disagreement_is_a_failure() {
     let site = sheet::write(&Lts::of(2, 1, &[(0, 1, 1), (1, 1, 1)]));
     let rules = sheet::write(&Lts::of(2, 1, &[(0, 1, 1)]));
-    let joined = Joined::new(&site, &rules).unwrap();
-    let compared = flow::compare(&site, &rules).unwrap();
-    assert!(!compared.yes && joined.confirm(compared).is_ok());
-    let yes = Compared {
-        yes: true,
-        ..compared
-    };
-    let turns = Compared {
-        turns: compared.turns + 1,
-        ..compared
-    };
-    assert!(joined.confirm(yes).is_err() && joined.confirm(turns).is_err());
+    for (form, in_rounds) in [(Form::Older, 2), (Form::Ready, 1)] {
+        let joined = Joined::new(form, &site, &rules).unwrap();
+        let compared = form.compare(&site, &rules).unwrap();
+        assert!(!compared.yes && joined.confirm(compared).is_ok());
+        let yes = Compared {
+            yes: true,
+            ..compared
+        };
+        let turns = Compared {
+            turns: compared.turns + 1,
+            ..compared
+        };
+        assert!(joined.confirm(yes).is_err() && joined.confirm(turns).is_err());
 
-    let (plan, rounds) = joined.plan().unwrap();
-    assert_eq!(rounds, 2);
-    assert!(story::tell(&joined, &plan).is_ok());
-    let last = plan.len() - 1;
-    assert!(story::tell(&joined, &plan[last..]).is_err());
-    assert!(story::tell(&joined, &plan[..last]).is_err());
-    let mut other = plan.clone();
-    other[last].t = 0;
-    assert!(story::tell(&joined, &other).is_err());
-    assert!(Joined::new(&site, &rules[1..]).is_err());
+        let (plan, rounds) = joined.plan().unwrap();
+        assert_eq!(rounds, in_rounds);
+        assert!(story::tell(&joined, &plan).is_ok());
+        let last = plan.len() - 1;
+        assert!(story::tell(&joined, &plan[last..]).is_err());
+        assert!(story::tell(&joined, &plan[..last]).is_err());
+        let mut other = plan.clone();
+        other[last].t = 0;
+        assert!(story::tell(&joined, &other).is_err());
+        assert!(Joined::new(form, &site, &rules[1..]).is_err());
+    }
 }

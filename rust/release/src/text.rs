@@ -1,6 +1,8 @@
 //! A verdict in lines of text.
 
-use crate::story::{Step, Why};
+use crate::joined::Action;
+use crate::story::{Reply, Step, Why};
+use crate::unlike::Unlike;
 use crate::verdict::{Reason, Verdict};
 
 /// The lines that the tool prints.
@@ -32,30 +34,57 @@ fn why(rounds: u16, reason: &Reason) -> String {
 /// One step.
 fn told(number: usize, step: &Step) -> String {
     let Step { site, rules, why } = step;
-    let mut text = format!("step {number} (site at page {site}, rules at page {rules}): ");
-    match why {
-        Why::EndMark => {
-            text += &format!(
-                "page {site} of the site has the end mark, page {rules} of the rules has not\n"
-            )
-        }
+    let begin = format!("step {number} (site at page {site}, rules at page {rules}): ");
+    let text = match why {
+        Why::EndMark => end_mark(step),
+        Why::Unlike(unlike) => outside(step, unlike),
         Why::Move {
-            label,
+            action: Action { label, .. },
             target,
             replies,
-            ..
         } => {
-            text += &format!("the site moves {site} -{label}-> {target}; ");
-            text += &match replies.is_empty() {
-                true => format!("the rules at page {rules} have no move {label}\n"),
-                false => {
-                    format!("whatever the rules answer from page {rules} by action {label}:\n")
-                }
-            };
-            for reply in replies {
-                text += &format!("  page {}: see step {}\n", reply.page, reply.step);
-            }
+            let begin = format!("the site moves {site} -{label}-> {target}; ");
+            begin + &answers(step, label, replies)
+        }
+    };
+    format!("{begin}{text}\n")
+}
+
+/// The sentence about an end mark.
+fn end_mark(step: &Step) -> String {
+    let Step { site, rules, .. } = step;
+    format!("page {site} of the site has the end mark, page {rules} of the rules has not")
+}
+
+/// The sentences about a pair outside the ready start.
+fn outside(step: &Step, unlike: &Unlike) -> String {
+    let mut sentences = Vec::new();
+    if unlike.end_mark {
+        sentences.push(end_mark(step));
+    }
+    let mut lists = Vec::new();
+    for (word, actions) in [("also", &unlike.also), ("not", &unlike.not)] {
+        let labels: Vec<&str> = actions.iter().map(|own| own.label.as_str()).collect();
+        if !labels.is_empty() {
+            lists.push(format!("{word} {}", labels.join(", ")));
         }
     }
-    text
+    if !lists.is_empty() {
+        let lists = lists.join("; ");
+        sentences.push(format!(
+            "the rules' page has another set of actions: {lists}"
+        ));
+    }
+    sentences.join("; ")
+}
+
+/// What the rules can answer to a move by an action with this name.
+fn answers(step: &Step, label: &str, replies: &[Reply]) -> String {
+    let rules = step.rules;
+    if replies.is_empty() {
+        return format!("the rules at page {rules} have no move {label}");
+    }
+    let reply = |reply: &Reply| format!("\n  page {}: see step {}", reply.page, reply.step);
+    let replies: String = replies.iter().map(reply).collect();
+    format!("whatever the rules answer from page {rules} by action {label}:{replies}")
 }

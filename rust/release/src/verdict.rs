@@ -1,5 +1,6 @@
 //! The verdict on a site and its rules.
 
+use crate::form::Form;
 use crate::joined::Joined;
 use crate::story::{self, Step};
 use flow::{Entry, Refusal};
@@ -8,17 +9,17 @@ use std::fmt;
 /// What the calls say.
 #[derive(Clone, PartialEq, Eq, Debug)]
 pub enum Verdict {
-    /// Compare's yes.
+    /// The yes of compare, in the form asked for.
     Open { turns: u16 },
-    /// Compare's no, in how many rounds at most the rules lose, and why. The
-    /// rounds are the depth that check plan gives for the plan.
+    /// Its no, in how many rounds at most the rules lose, and why. The rounds
+    /// are the depth that check plan gives for the plan.
     Closed {
         turns: u16,
         rounds: u16,
         reason: Reason,
     },
-    /// A refusal of compare, and the sheet that it is about. None for a
-    /// joined flow that is too large or has too many names.
+    /// Its refusal, and the sheet that this is about. None for a joined flow
+    /// that is too large or has too many names.
     Refused {
         refusal: Refusal,
         sheet: Option<Sheet>,
@@ -53,15 +54,15 @@ impl fmt::Display for Sheet {
     }
 }
 
-/// Compares, and where the answer is no says in how many rounds, and why: by the
-/// plan's entries, or by its story. An error is a line on how the proved calls
-/// disagree.
-pub fn judge(site: &[u8], rules: &[u8], entries: bool) -> Result<Verdict, String> {
-    let compared = match flow::compare(site, rules) {
+/// Compares in the form asked for, and where the answer is no says in how many
+/// rounds, and why: by the plan's entries, or by its story. An error is a line on
+/// how the proved calls disagree.
+pub fn judge(site: &[u8], rules: &[u8], form: Form, entries: bool) -> Result<Verdict, String> {
+    let compared = match form.compare(site, rules) {
         Ok(compared) => compared,
         Err(refusal) => return refused(site, rules, refusal),
     };
-    let joined = Joined::new(site, rules)?;
+    let joined = Joined::new(form, site, rules)?;
     joined.confirm(compared)?;
     let turns = compared.turns;
     if compared.yes {
@@ -83,8 +84,9 @@ pub fn judge(site: &[u8], rules: &[u8], entries: bool) -> Result<Verdict, String
     })
 }
 
-/// Which sheet a refusal of compare is about. Compare reads the first sheet
-/// through, then the second; normalise reads one alone by the same rules.
+/// Which sheet a refusal of compare is about. In either form compare reads the
+/// first sheet through, then the second; normalise reads one alone by the same
+/// rules.
 fn refused(site: &[u8], rules: &[u8], refusal: Refusal) -> Result<Verdict, String> {
     let alone = |sheet: &[u8]| flow::normalise(sheet, &mut vec![0; sheet.len()]).err();
     let sheet = match (alone(site), alone(rules)) {

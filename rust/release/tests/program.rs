@@ -1,24 +1,20 @@
 //! The release tool, run as a process, against the independent program.
 
 mod json;
+mod pairs;
+mod ready;
 mod run;
 
-use differential::{damage, flows};
 use json::Json;
 use reference::labels::{decimal, LabelledLts};
 use reference::lts::Lts;
-use reference::plans::Rounds;
 use reference::prng::Prng;
-use reference::refusal::Refusal;
-use reference::{compare, grid, random, sheet};
+use reference::{compare, random, sheet};
 use run::{Folder, Run};
 use std::ffi::OsStr;
 use std::fs;
 use std::path::{Path, PathBuf};
 use std::process::{Command, Stdio};
-
-/// Pairs of sheets of all kinds that are run.
-const PAIRS: u64 = 300;
 
 /// The example's sheets and the page that tells of them.
 const EXAMPLES: &str = concat!(env!("CARGO_MANIFEST_DIR"), "/../../examples");
@@ -249,11 +245,14 @@ fn each_refusal() {
     let folder = Folder::new("refusals");
     let refused = |site: &[u8], rules: &[u8], refusal: Refused, sheet: Option<&str>| {
         let line = refusal.line(sheet);
-        folder.run(&[], site, rules).is(2, &line);
-        folder.run(&["--entries"], site, rules).is(2, &line);
-        let run = folder.run(&["--json"], site, rules);
-        assert_eq!((run.status, run.errors.as_str()), (2, ""));
-        refusal.is(&Json::read(&run.out), sheet);
+        for options in [&[][..], &["--entries"], &["--ready"]] {
+            folder.run(options, site, rules).is(2, &line);
+        }
+        for options in [&["--json"][..], &["--ready", "--json"]] {
+            let run = folder.run(options, site, rules);
+            assert_eq!((run.status, run.errors.as_str()), (2, ""));
+            refusal.is(&Json::read(&run.out), sheet);
+        }
     };
     let (sheets, good) = (refused_sheets(), good_sheet());
     for (bad, refusal) in &sheets {
@@ -324,12 +323,15 @@ fn bad_usage() {
     let folder = Folder::new("usage");
     let [twice, once] = twice_and_once();
     folder.run(&[], &once, &twice).is(0, "open\n");
-    let wrong: [&[&str]; 9] = [
+    let wrong: [&[&str]; 12] = [
         &[],
         &["site"],
         &["site", "rules", "rules"],
         &["--json"],
         &["--json", "site"],
+        &["--ready"],
+        &["--ready", "site"],
+        &["--readyx", "site", "rules"],
         &["--jsonx", "site", "rules"],
         &["--entry", "site", "rules"],
         &["-", "rules"],
@@ -396,121 +398,6 @@ fn a_closed_output() {
     }
 }
 
-/// The status, the first line, the turns and the rounds are the independent
-/// program's, and the steps of text and object are the same.
-#[test]
-fn pairs_of_all_kinds() {
-    let folder = Folder::new("pairs");
-    let sizes = flows::Sizes {
-        large: 30,
-        edges: 200,
-    };
-    let mut count = [0; 3];
-    for seed in 0..PAIRS {
-        let rng = &mut Prng::new(8_000_000 + seed);
-        let site = flows::flow(rng, sizes);
-        let rules = if rng.chance(60) {
-            random::fewer(rng, &site, 1)
-        } else {
-            flows::flow(rng, sizes)
-        };
-        let flows = flows::labelled(rng, [site, rules]);
-        let sheets = flows.map(|flow| damage::sheet(rng, &flow, 15));
-        let text = folder.run(&[], &sheets[0], &sheets[1]);
-        let object = folder.run(&["--json"], &sheets[0], &sheets[1]);
-        assert_eq!(text.status, object.status);
-        count[text.status as usize] += 1;
-        agree(&sheets, &text, &Json::read(&object.out));
-    }
-    assert!(count.iter().all(|&count| count > 40), "{count:?}");
-}
-
-/// Holds one run to the independent program.
-fn agree(sheets: &[Vec<u8>; 2], text: &Run, object: &Json) {
-    let result = object.field("result").string();
-    match compare::compare(&sheets[0], &sheets[1]) {
-        Err(Refusal { number, record }) => {
-            assert_eq!((text.status, result), (2, "refused"));
-            assert!(text.out.starts_with(&format!("refused {number}: ")));
-            assert_eq!(object.field("number").number(), usize::from(number));
-            let told = text.out.contains(&format!(": record {record} ("));
-            let field = match object.field("record") {
-                Json::Null => 0,
-                record => record.number(),
-            };
-            assert_eq!(
-                (field, told),
-                (usize::from(record), record != 0),
-                "{text:?}"
-            );
-        }
-        Ok((yes, turns)) => {
-            assert_eq!(text.status, i32::from(!yes));
-            let word = if yes { "open" } else { "closed" };
-            assert_eq!((text.out.lines().next(), result), (Some(word), word));
-            assert_eq!(object.field("turns").number(), turns);
-            if !yes {
-                closed_agrees(sheets, text, object);
-            }
-        }
-    }
-}
-
-/// Holds the rounds and the steps of one run to the independent program.
-fn closed_agrees(sheets: &[Vec<u8>; 2], text: &Run, object: &Json) {
-    assert_eq!(object.names(), ["result", "turns", "rounds", "steps"]);
-    let [site, rules] = sheets
-        .each_ref()
-        .map(|sheet| sheet::read_labelled(sheet).unwrap());
-    let joined = compare::join_labelled(&site, &rules).unwrap();
-    let lts = joined.lts();
-    let falls = Rounds::of(lts, &grid::end_start_of(lts)).falls_at(0, site.lts().states());
-    let rounds = object.field("rounds").number();
-    assert_eq!(falls, Some(rounds));
-    let steps = object.field("steps").array();
-    let lines: String = steps.iter().map(told).collect();
-    let begin = format!("closed\nthe rules lose in {rounds} rounds at most\n");
-    assert_eq!(text.out, begin + &lines);
-    let labels = joined.labels();
-    steps.iter().for_each(|step| is_named(step, labels));
-}
-
-/// An object's step has its action's number and name.
-fn is_named(step: &Json, labels: &[String]) {
-    if step.field("why").string() == "move" {
-        let action = step.field("action").number();
-        assert_eq!(step.field("label").string(), labels[action - 1]);
-    }
-}
-
-/// The lines that tell an object's step.
-fn told(step: &Json) -> String {
-    let number = |name: &str| step.field(name).number();
-    let (site, rules) = (number("site"), number("rules"));
-    let begin = format!(
-        "step {} (site at page {site}, rules at page {rules}): ",
-        number("step")
-    );
-    if step.field("why").string() == "end mark" {
-        return format!(
-            "{begin}page {site} of the site has the end mark, page {rules} of the rules has not\n"
-        );
-    }
-    assert_eq!(step.field("why").string(), "move");
-    let (label, target) = (step.field("label").string(), number("target"));
-    let begin = format!("{begin}the site moves {site} -{label}-> {target}; ");
-    let replies = step.field("replies").array();
-    if replies.is_empty() {
-        return format!("{begin}the rules at page {rules} have no move {label}\n");
-    }
-    let reply = |reply: &Json| {
-        let (page, step) = (reply.field("page").number(), reply.field("step").number());
-        format!("  page {page}: see step {step}\n")
-    };
-    let replies: String = replies.iter().map(reply).collect();
-    format!("{begin}whatever the rules answer from page {rules} by action {label}:\n{replies}")
-}
-
 /// The example's sheets are the flows that its page describes, and the page
 /// shows what the tool prints for them.
 #[test]
@@ -553,9 +440,10 @@ fn the_example() {
     assert_eq!(site[next..next + 2], [4, 0]);
     let draft = [&site[..next], &[0, 0], &site[next + 2..]].concat();
     assert_eq!(read("draft.sheet"), draft);
-    shown(&["site.sheet", "rules.sheet"], 1);
-    shown(&["draft.sheet", "rules.sheet"], 2);
-    shown(&["--json", "draft.sheet", "rules.sheet"], 2);
+    shown(&["site.sheet", "rules.sheet"], 1, fenced);
+    shown(&["--ready", "site.sheet", "rules.sheet"], 1, indented);
+    shown(&["draft.sheet", "rules.sheet"], 2, fenced);
+    shown(&["--json", "draft.sheet", "rules.sheet"], 2, fenced);
     let run = Folder::new("example").run(&[], &by_number[0], &by_number[1]);
     let story = "closed\nthe rules lose in 1 rounds at most\n\
         step 1 (site at page 0, rules at page 0): \
@@ -563,12 +451,23 @@ fn the_example() {
     run.is(1, story);
 }
 
-/// Ends with this status, and prints what the examples' page shows.
-fn shown(words: &[&str], status: i32) {
+/// Ends with this status, and prints what the examples' page shows in a block of
+/// this kind.
+fn shown(words: &[&str], status: i32, block: fn(&str) -> String) {
     let folder = Folder(PathBuf::from(EXAMPLES));
     let run = folder.on(words);
     assert_eq!((run.status, run.errors.as_str()), (status, ""));
     let page = fs::read_to_string(folder.0.join("README.md")).unwrap();
-    let block = format!("```\n{}```\n", run.out);
-    assert!(page.contains(&block), "{}", run.out);
+    assert!(page.contains(&block(&run.out)), "{}", run.out);
+}
+
+/// The lines between two fences.
+fn fenced(lines: &str) -> String {
+    format!("```\n{lines}```\n")
+}
+
+/// The lines behind four blanks each, and nothing before or after them.
+fn indented(lines: &str) -> String {
+    let lines: String = lines.lines().map(|line| format!("    {line}\n")).collect();
+    format!("\n\n{lines}\n")
 }

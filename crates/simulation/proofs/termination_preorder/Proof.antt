@@ -1,57 +1,20 @@
--- `simulation::termination_preorder` meets its contract: by the cases of the reading. Assumes nothing.
-use mathlib.Core.Path.{sym, _∙_}
-use Rattle.encoding.proofs.Reader.{readable-of}
-use Rattle.simulation.proofs.CallLaws.{stopped, misfit, written}
+-- `simulation::termination_preorder` meets its contract: the promise follows from the equation.
+use Rattle.starts.specs.Start.{writtenStart}
+use Rattle.simulation.proofs.Starts.{end-start}
+use Rattle.simulation.proofs.Promise.{start-promised}
 use borrow.Author.Needs.{needs}
 use Rattle.simulation.proofs.termination_preorder.Statement.{statement}
 use Rattle.simulation.proofs.termination_preorder.Tie as tie
 
-read-encoding-requires : tie.Need-read-encoding-requires
-read-encoding-requires c κs = search needs
-
-enum-known-reading : tie.Need-enum-known-reading
-enum-known-reading c = search needs
-
-enum-known-reading-2 : tie.Need-enum-known-reading-2
-enum-known-reading-2 c = search needs
-
-matrix-words-requires : tie.Need-matrix-words-requires
-matrix-words-requires c κs =
-    let a = c .before in
-    readable-of (sym (a .before .before .read-encoding .ensures .0) ∙ a .reading2 .given .1) .recorded .sized .bounds .states
-
-returns : tie.Need-returns
-returns c =
-    let a = c .before .before .before in
-    misfit _ _ (sym (a .before .before .read-encoding .ensures .0) ∙ a .reading2 .given .1) (λ e. c .if1 .taken (e ∙ sym (c .before .matrix-words .ensures .0)))
-
-write-loaded-requires : tie.Need-write-loaded-requires
-write-loaded-requires c κs =
-    let a = c .before .before .before .before in
-    (readable-of (sym (a .before .before .read-encoding .ensures .0) ∙ a .reading2 .given .1), c .before .if1 .left ∙ c .before .before .matrix-words .ensures .0)
-
-returns-2 : tie.Need-returns-2
-returns-2 c = stopped _ _ (sym (c .before .before .before .read-encoding .ensures .0) ∙ c .before .reading .given .1)
+write-start-requires : tie.Need-write-start-requires
+write-start-requires c κs = search needs
 
 same-length : tie.Need-same-length
 same-length c = search needs
 
-returns-3 : tie.Need-returns-3
-returns-3 c =
-    let a = c .before .before .before .before .before .before .before in
-    written _ _ (sym (a .before .before .read-encoding .ensures .0) ∙ a .reading2 .given .1)
-    (c .before .before .before .before .if1 .left ∙ c .before .before .before .before .before .matrix-words .ensures .0) (c .before .before .write-loaded .ensures)
+returns : tie.Need-returns
+unfolding writtenStart
+returns c = let e = c .before .before .write-start .ensures in (e, start-promised end-start _ _ _ _ e)
 
 pub termination-preorder-spec : {M : Type 1} → statement M
-termination-preorder-spec =
-    tie.close
-    (tie.spec
-    read-encoding-requires
-    enum-known-reading
-    enum-known-reading-2
-    matrix-words-requires
-    returns
-    write-loaded-requires
-    returns-2
-    same-length
-    returns-3)
+termination-preorder-spec = tie.close (tie.spec write-start-requires same-length returns)

@@ -31,11 +31,11 @@ pub fn right(call: Call, sheets: &[&[u8]], pages: usize) -> Case {
             let (grid, names) = (result(start.len()), result(2 * pages));
             (vec![start, vec![1, 0], grid, names], vec![])
         }
-        Call::Compare => (vec![], vec![]),
+        Call::Compare | Call::CompareReady => (vec![], vec![]),
         Call::Normalise => (vec![result(sheets[0].len())], vec![]),
         Call::ToNamed | Call::ToPlain => (vec![result(new_length(call, sheets[0]))], vec![]),
         Call::Join => (vec![result(LONGEST_SHEET)], vec![]),
-        Call::EndStart => (vec![result(start.len())], vec![]),
+        Call::EndStart | Call::ReadyStart => (vec![result(start.len())], vec![]),
         Call::TestSimulation => (vec![start.clone(), start], vec![]),
         Call::CheckPlan => (vec![start, outside.bytes().to_vec()], vec![]),
         Call::WritePlan => (vec![start, result(8)], vec![0, 1]),

@@ -2,9 +2,9 @@
 
 use super::refused;
 use crate::chain_faults::{last_of_most, linked, raw, small, two_bytes, Fault};
-use crate::compare::compare;
+use crate::compare::{compare, compare_ready};
 use crate::game::hand_play;
-use crate::grid::{end_start, test_simulation};
+use crate::grid::{end_start, ready_start, test_simulation};
 use crate::join::join;
 use crate::lts::Lts;
 use crate::plans::{check_plan, write_plan};
@@ -69,6 +69,8 @@ fn every_call_passes_both_numbers_on() {
         let (mut words, mut names, mut plan) = ([9; 3], [9; 3], [9; 12]);
         assert_eq!(end_start(&sheet, &mut words), Err(refusal));
         assert_eq!(end_start(&sheet, &mut []), Err(refusal));
+        assert_eq!(ready_start(&sheet, &mut words), Err(refusal));
+        assert_eq!(ready_start(&sheet, &mut []), Err(refusal));
         for start in [&START[..], &[]] {
             let coarsest = coarsest(&sheet, start, &[], &mut words, &mut names);
             assert_eq!(coarsest, Err(refusal));
@@ -84,9 +86,11 @@ fn every_call_passes_both_numbers_on() {
     }
 }
 
-/// Compare and join give this refusal, and join leaves its buffer.
+/// Compare in either form and join give this refusal, and join leaves its
+/// buffer.
 fn both_refuse(first: &[u8], second: &[u8], refusal: Refusal) {
     assert_eq!(compare(first, second), Err(refusal));
+    assert_eq!(compare_ready(first, second), Err(refusal));
     let mut out = [9; 70];
     assert_eq!(join(first, second, &mut out), Err(refusal));
     assert_eq!(out, [9; 70]);

@@ -7,6 +7,7 @@ mod document;
 mod join;
 mod names;
 mod properties;
+mod ready;
 mod sheets;
 
 use crate::plans::Checked;

@@ -3,9 +3,9 @@
 use super::document::F3;
 use super::refused;
 use crate::chain_faults;
-use crate::compare::{self, compare, join_labelled};
+use crate::compare::{self, compare, compare_ready, join_labelled};
 use crate::game::hand_play;
-use crate::grid::{self, end_start, test_simulation};
+use crate::grid::{self, end_start, ready_start, test_simulation};
 use crate::join::join;
 use crate::label_faults::{self, other_faults, LABEL_FAULTS};
 use crate::labels::{self, decimal, Kind, LabelledLts, LABEL};
@@ -433,10 +433,10 @@ fn one_flow_joined_with_itself_in_either_numbering() {
 
 /// All that the calls on one sheet give and leave, but for normalise.
 fn replies(sheet: &[u8], n: usize) -> impl PartialEq + std::fmt::Debug {
-    let (mut start, mut words) = (vec![9; n], vec![9; n]);
+    let (mut start, mut ready, mut words) = (vec![9; n], vec![9; n], vec![9; n]);
     let mut names = vec![9; n];
     let mut plan = vec![9; 4 * (n * n + 1)];
-    let ended = end_start(sheet, &mut start);
+    let ended = (end_start(sheet, &mut start), ready_start(sheet, &mut ready));
     let coarsest = coarsest(sheet, &start, &[1, 5], &mut words, &mut names);
     let tested = test_simulation(sheet, &start, &words);
     let (p, q) = (n as u16 - 1, 0);
@@ -444,7 +444,7 @@ fn replies(sheet: &[u8], n: usize) -> impl PartialEq + std::fmt::Debug {
     let checked = check_plan(sheet, &start, &plan[..4 * written.unwrap_or(0)]);
     let played = hand_play(sheet, &start, p, q, 3);
     let calls = (ended, coarsest, tested, written, checked, played);
-    (calls, start, words, names, plan, flowcheck(sheet))
+    (calls, start, ready, words, names, plan, flowcheck(sheet))
 }
 
 #[test]
@@ -470,6 +470,8 @@ fn a_plain_sheet_and_its_decimal_twin() {
         for (a, b) in [(&plain, &third), (&plain, &plain), (&plain, &twin)] {
             assert_eq!(compare(a, b), compare(&twin, b));
             assert_eq!(compare(b, a), compare(b, &twin));
+            assert_eq!(compare_ready(a, b), compare_ready(&twin, b));
+            assert_eq!(compare_ready(b, a), compare_ready(b, &twin));
         }
     }
 }
@@ -484,6 +486,8 @@ fn every_call_passes_17_on() {
         assert_eq!(normalise(sheet, &mut out[1..]), refused(17));
         assert_eq!(end_start(sheet, &mut words), refused(17));
         assert_eq!(end_start(sheet, &mut words[1..]), refused(17));
+        assert_eq!(ready_start(sheet, &mut words), refused(17));
+        assert_eq!(ready_start(sheet, &mut words[1..]), refused(17));
         for start in [&[7, 7, 7][..], &[]] {
             let coarsest = coarsest(sheet, start, &[], &mut words, &mut names);
             assert_eq!(coarsest, refused(17));
@@ -495,6 +499,8 @@ fn every_call_passes_17_on() {
         for good in [&F3[..], &NAMED_F3, &write(&Lts::of(256, 0, &[]))] {
             assert_eq!(compare(sheet, good), refused(17));
             assert_eq!(compare(good, sheet), refused(17));
+            assert_eq!(compare_ready(sheet, good), refused(17));
+            assert_eq!(compare_ready(good, sheet), refused(17));
             assert_eq!(join(sheet, good, &mut out), refused(17));
             assert_eq!(join(good, sheet, &mut []), refused(17));
         }
@@ -508,7 +514,7 @@ fn every_call_passes_17_on() {
 }
 
 /// A flow of `n` pages and no moves with `m` labels from `first` on: "x1", ..
-fn with_many(n: usize, first: usize, m: usize) -> Vec<u8> {
+pub fn with_many(n: usize, first: usize, m: usize) -> Vec<u8> {
     let labels: Vec<String> = (first..first + m).map(|i| format!("x{i}")).collect();
     with_labels(&write(&Lts::of(n, m, &[])), &labels)
 }

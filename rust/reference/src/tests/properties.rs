@@ -29,7 +29,7 @@ fn sample(rng: &mut Prng, most_states: usize) -> (Lts, Preorder) {
 }
 
 /// The three ways agree, on every schedule tried; gives the relation.
-fn agree(rng: &mut Prng, lts: &Lts, start: &Preorder) -> Relation {
+pub fn agree(rng: &mut Prng, lts: &Lts, start: &Preorder) -> Relation {
     let n = lts.states();
     let kept = base::coarsest(lts, start);
     assert_eq!(kept, fixpoint::coarsest(lts, start), "{lts:?} {start:?}");

@@ -7,6 +7,7 @@ use std::str::Chars;
 #[derive(Clone, PartialEq, Eq, Debug)]
 pub enum Json {
     Null,
+    Bool(bool),
     Number(u64),
     String(String),
     Array(Vec<Json>),
@@ -51,6 +52,13 @@ impl Json {
         }
     }
 
+    pub fn bool(&self) -> bool {
+        match self {
+            Json::Bool(value) => *value,
+            other => panic!("neither true nor false: {other:?}"),
+        }
+    }
+
     pub fn string(&self) -> &str {
         match self {
             Json::String(text) => text,
@@ -79,6 +87,14 @@ fn value(signs: &mut Signs) -> Json {
         Some('n') => {
             expect(signs, "null");
             Json::Null
+        }
+        Some('t') => {
+            expect(signs, "true");
+            Json::Bool(true)
+        }
+        Some('f') => {
+            expect(signs, "false");
+            Json::Bool(false)
         }
         Some('"') => Json::String(string(signs)),
         Some('[') => Json::Array(list(signs, ['[', ']'], value)),

@@ -1,9 +1,9 @@
 //! One case: its fields, its bytes and its expected answer.
 
-use reference::compare::compare;
+use reference::compare::{compare, compare_ready};
 use reference::convert::{to_named, to_plain};
 use reference::game::hand_play;
-use reference::grid::{end_start, test_simulation};
+use reference::grid::{end_start, ready_start, test_simulation};
 use reference::join::join;
 use reference::plans::{check_plan, write_plan};
 use reference::refusal::Refusal;
@@ -106,6 +106,16 @@ impl Case {
         Case::new(18, &[sheet, out])
     }
 
+    /// Ready start.
+    pub fn ready_start(sheet: &[u8], grid: &[u64]) -> Case {
+        Case::new(19, &[sheet, &word_bytes(grid)])
+    }
+
+    /// Compare ready.
+    pub fn compare_ready(first: &[u8], second: &[u8]) -> Case {
+        Case::new(20, &[first, second])
+    }
+
     /// Another operation on the same fields, of which field `at` has these
     /// bytes more.
     pub fn on(&self, op: u8, at: usize, more: &[u8]) -> Case {
@@ -139,13 +149,13 @@ impl Case {
         // Per field: its most bytes and the number that divides its length.
         let limits: &[(usize, usize)] = match self.op {
             1 => &[SHEET, (8_204, 1)],
-            2 => &[SHEET, WORDS],
+            2 | 19 => &[SHEET, WORDS],
             3 => &[SHEET, WORDS, WORDS],
             4 => &[SHEET, WORDS, (4_096, 2), WORDS, (520, 2)],
             5 => &[SHEET, WORDS, (PLAN, 2)],
             6 => &[SHEET, WORDS, (PLAN, 2), (4, 4)],
             7 => &[SHEET, WORDS, (6, 6)],
-            8 => &[SHEET, SHEET],
+            8 | 20 => &[SHEET, SHEET],
             9 | 16 => &[SHEET],
             10 => &[SHEET, WORDS, (PLAN, 8)],
             11 => &[SHEET, WORDS, (PLAN, 8), (4, 4)],
@@ -171,11 +181,7 @@ impl Case {
         let f = &self.fields;
         match self.op {
             1 => self.run_rewriting(normalise),
-            2 => {
-                let mut grid = words(&f[1]);
-                let result = end_start(&f[0], &mut grid).map(|()| vec![]);
-                Answer::of(result, 0, vec![word_bytes(&grid)])
-            }
+            2 => self.run_start(end_start),
             3 => {
                 let result = test_simulation(&f[0], &words(&f[1]), &words(&f[2]));
                 Answer::of(result.map(|yes| vec![usize::from(yes)]), 1, vec![])
@@ -198,14 +204,7 @@ impl Case {
                 let result = hand_play(&f[0], &words(&f[1]), a[0], a[1], a[2]);
                 Answer::of(result.map(|won| vec![usize::from(won)]), 1, vec![])
             }
-            8 => {
-                let result = compare(&f[0], &f[1]);
-                Answer::of(
-                    result.map(|(yes, turns)| vec![usize::from(yes), turns]),
-                    2,
-                    vec![],
-                )
-            }
+            8 => Answer::of_compare(compare(&f[0], &f[1])),
             9 => {
                 let result = sheet::read(&f[0]);
                 let counts =
@@ -223,6 +222,8 @@ impl Case {
             }
             17 => self.run_rewriting(to_named),
             18 => self.run_rewriting(to_plain),
+            19 => self.run_start(ready_start),
+            20 => Answer::of_compare(compare_ready(&f[0], &f[1])),
             _ => panic!("no such op"),
         }
     }
@@ -232,6 +233,13 @@ impl Case {
         let mut out = self.fields[1].clone();
         let result = call(&self.fields[0], &mut out).map(|()| vec![]);
         Answer::of(result, 0, vec![out])
+    }
+
+    /// A call that writes a start of the sheet's flow.
+    fn run_start(&self, call: fn(&[u8], &mut [u64]) -> Result<(), Refusal>) -> Answer {
+        let mut grid = words(&self.fields[1]);
+        let result = call(&self.fields[0], &mut grid).map(|()| vec![]);
+        Answer::of(result, 0, vec![word_bytes(&grid)])
     }
 
     /// Coarsest. A grid or a list of names that its bytes do not carry whole
@@ -265,6 +273,12 @@ impl Answer {
                 buffers,
             },
         }
+    }
+
+    /// The answer of compare, in either form.
+    fn of_compare(result: Result<(bool, usize), Refusal>) -> Answer {
+        let values = result.map(|(yes, turns)| vec![usize::from(yes), turns]);
+        Answer::of(values, 2, vec![])
     }
 
     /// The refusal number and the record number, both 0 without a refusal.

@@ -231,7 +231,7 @@ fn play_refusals(cases: &mut Vec<Case>) {
 }
 
 /// F1 to F4 with each other, plain and with end marks.
-fn document_compare(cases: &mut Vec<Case>) {
+pub fn document_compare(cases: &mut Vec<Case>) {
     let flows = [make::f1(), make::f2(), make::f3(), make::f4()];
     for first in &flows {
         for second in &flows {
@@ -325,7 +325,7 @@ fn joins(cases: &mut Vec<Case>) {
 }
 
 /// Sheets that are refused, on either side.
-fn compare_refusals(cases: &mut Vec<Case>) {
+pub fn compare_refusals(cases: &mut Vec<Case>) {
     let bad = make::refused_sheets();
     for sheet in &bad {
         cases.push(Case::compare(sheet, &make::f3()));

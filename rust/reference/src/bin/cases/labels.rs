@@ -174,6 +174,7 @@ fn every_call(cases: &mut Vec<Case>, sheet: &[u8]) {
     cases.extend(converted(sheet));
     cases.extend([
         Case::end_start(sheet, &words),
+        Case::ready_start(sheet, &words),
         Case::test_simulation(sheet, &start, &start),
         Case::hand_play(sheet, &start, p, q, 2),
         Case::text(sheet),
@@ -268,7 +269,7 @@ fn named(lts: &Lts, labels: &[&str]) -> Vec<u8> {
 
 /// "open" as action 1 in one sheet and as 2 in another; decimal labels beside
 /// plain sheets.
-fn open_here_and_there(cases: &mut Vec<Case>) {
+pub fn open_here_and_there(cases: &mut Vec<Case>) {
     let one = Lts::of(2, 1, &[(0, 1, 1)]);
     let first_of_two = Lts::of(2, 2, &[(0, 1, 1)]);
     let second_of_two = Lts::of(2, 2, &[(0, 2, 1)]);
@@ -371,10 +372,10 @@ fn looping(n: usize, labels: Vec<String>) -> Vec<u8> {
     with_labels(&sheet::write(&Lts::of(n, m, &moves)), &labels)
 }
 
-/// 64 and 65 joined labels; 18 goes before 15.
-fn many_labels(cases: &mut Vec<Case>) {
+/// Pairs of sheets with 64, 65 and more labels together.
+pub fn many_together() -> Vec<[Vec<u8>; 2]> {
     let plain = |m: usize| sheet::write(&Lts::of(1, m, &[(0, m, 0)]));
-    let pairs = [
+    vec![
         // 64 together.
         [looping(1, numbered(1, 40)), looping(1, numbered(41, 24))],
         [looping(1, numbered(1, 40)), looping(1, numbered(30, 35))],
@@ -390,7 +391,12 @@ fn many_labels(cases: &mut Vec<Case>) {
         [looping(1, numbered(1, 5)), plain(60)],
         [plain(64), looping(1, vec!["65".to_string()])],
         [plain(64), looping(1, vec!["064".to_string()])],
-    ];
+    ]
+}
+
+/// 64 and 65 joined labels; 18 goes before 15.
+fn many_labels(cases: &mut Vec<Case>) {
+    let pairs = many_together();
     for [first, second] in &pairs {
         add_pair(cases, first, second, 0);
         cases.push(Case::compare(second, first));
@@ -401,7 +407,7 @@ fn many_labels(cases: &mut Vec<Case>) {
 }
 
 /// 7 and 17 go before 18.
-fn before_too_many_labels(cases: &mut Vec<Case>) {
+pub fn before_too_many_labels(cases: &mut Vec<Case>) {
     // Too many pages.
     for n in [192, 193] {
         let (first, second) = (looping(64, numbered(1, 40)), looping(n, numbered(41, 25)));

@@ -13,6 +13,7 @@ mod games;
 mod labels;
 mod make;
 mod plans;
+mod ready;
 mod refused;
 mod relations;
 mod sheets;
@@ -24,18 +25,18 @@ use std::path::Path;
 use std::process::ExitCode;
 
 /// The most bytes of the two files together.
-const MOST_BYTES: usize = 2_750_000;
+const MOST_BYTES: usize = 3_000_000;
 
 /// The refusals that each operation meets, 0 for none.
-const REFUSALS: [(u8, &[u8]); 18] = [
+const REFUSALS: [(u8, &[u8]); 20] = [
     (1, &[0, 1, 2, 3, 4, 5, 6, 15, 16, 17]),
-    (2, &[0, 1, 2, 3, 4, 5, 6, 15, 16, 17]),
+    (2, STARTS),
     (3, &[0, 1, 2, 3, 4, 5, 6, 8, 9, 10, 16, 17]),
     (4, &[0, 1, 2, 3, 4, 5, 6, 8, 9, 10, 15, 16, 17]),
     (5, CHECKS),
     (6, WRITES),
     (7, &[0, 1, 2, 3, 4, 5, 6, 8, 9, 10, 11, 12, 16, 17]),
-    (8, &[0, 1, 2, 3, 4, 5, 6, 7, 16, 17, 18]),
+    (8, COMPARES),
     (9, &[0, 1, 2, 3, 4, 5, 6, 16, 17]),
     (10, CHECKS),
     (11, WRITES),
@@ -46,9 +47,13 @@ const REFUSALS: [(u8, &[u8]); 18] = [
     (16, &[0]),
     (17, &[0, 1, 2, 3, 4, 5, 6, 15, 16, 17]),
     (18, &[0, 1, 2, 3, 4, 5, 6, 15, 16, 17, 19]),
+    (19, STARTS),
+    (20, COMPARES),
 ];
+const STARTS: &[u8] = &[0, 1, 2, 3, 4, 5, 6, 15, 16, 17];
 const CHECKS: &[u8] = &[0, 1, 2, 3, 4, 5, 6, 8, 9, 10, 14, 16, 17];
 const WRITES: &[u8] = &[0, 1, 2, 3, 4, 5, 6, 8, 9, 10, 11, 13, 15, 16, 17];
+const COMPARES: &[u8] = &[0, 1, 2, 3, 4, 5, 6, 7, 16, 17, 18];
 
 /// Records that each operation meets with 5 and with 16.
 const RECORDS: [u16; 3] = [1, 2, 3];
@@ -65,6 +70,7 @@ fn cases() -> Vec<Case> {
         chains::cases(),
         labels::cases(),
         convert::cases(),
+        ready::cases(),
     ]
     .concat()
 }

@@ -31,6 +31,7 @@ pub fn one_sheet(cases: &mut Vec<Case>, fault: &Fault) {
         Case::read(sheet),
         Case::normalise(sheet, &filled_bytes(sheet.len())),
         Case::end_start(sheet, &words),
+        Case::ready_start(sheet, &words),
         Case::test_simulation(sheet, &F3_START, &F3_START),
         Case::hand_play(sheet, &F3_START, 2, 0, 1),
         coarsest,
@@ -43,24 +44,29 @@ pub fn one_sheet(cases: &mut Vec<Case>, fault: &Fault) {
     cases.push(Case::text(sheet));
 }
 
-/// Compare and join with the fault in the first sheet and in the second.
+/// Compare in either form and join, with the fault in the first sheet and in
+/// the second.
 pub fn first_and_second(cases: &mut Vec<Case>, fault: &Fault) {
     let (sheet, good) = (&fault.sheet[..], &make::f1()[..]);
     let out = filled_bytes(9);
     let calls = vec![
         Case::compare(sheet, good),
         Case::compare(good, sheet),
+        Case::compare_ready(sheet, good),
+        Case::compare_ready(good, sheet),
         Case::join(sheet, good, &out),
         Case::join(good, sheet, &out),
     ];
     add(cases, fault, calls);
 }
 
-/// Compare and join where both sheets have a fault: the first one's counts.
+/// Compare in either form and join where both sheets have a fault: the first
+/// one's counts.
 pub fn both_sheets(cases: &mut Vec<Case>, faults: &[Fault]) {
     for (first, second) in faults.iter().zip(faults.iter().rev()) {
         let calls = vec![
             Case::compare(&first.sheet, &second.sheet),
+            Case::compare_ready(&first.sheet, &second.sheet),
             Case::join(&first.sheet, &second.sheet, &filled_bytes(9)),
         ];
         add(cases, first, calls);

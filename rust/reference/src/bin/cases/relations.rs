@@ -40,7 +40,7 @@ fn add_end_start(cases: &mut Vec<Case>, lts: &Lts) {
 }
 
 /// End start of flows with all kinds of end marks.
-fn end_starts(cases: &mut Vec<Case>) {
+pub fn end_starts(cases: &mut Vec<Case>) {
     for f in [make::f1(), make::f2(), make::f3(), make::f4()] {
         let n = usize::from(f[0]);
         cases.push(Case::end_start(&f, &filled_words(n)));
@@ -70,7 +70,7 @@ fn end_starts(cases: &mut Vec<Case>) {
 }
 
 /// End start refused for the sheet or for the buffer.
-fn end_start_refusals(cases: &mut Vec<Case>) {
+pub fn end_start_refusals(cases: &mut Vec<Case>) {
     for sheet in make::refused_sheets() {
         cases.push(Case::end_start(&sheet, &filled_words(3)));
         cases.push(Case::end_start(&sheet, &filled_words(2)));

@@ -1,7 +1,6 @@
--- `simulation::write_preorder` meets its contract: the relation of the table's terminating states. Assumes nothing.
-use Prim.Native.Nat.{ℕ, _*_, _≤_, _<_}
-use mathlib.Core.Path.{_≡_, sym, ap, _∙_}
-use mathlib.Core.List.{List}
+-- `starts::write_end` meets its contract: the relation of the table's terminating states. Assumes nothing.
+use Prim.Native.Nat.{ℕ, _*_}
+use mathlib.Core.Path.{sym, ap, _∙_}
 use native.Mathlib.Omega.{arith}
 use denote.Ref.{now}
 use Rattle.lts.specs.Bounded.{_⇒_}
@@ -11,13 +10,8 @@ use Rattle.relation.proofs.Starts.{termination-written}
 use Rattle.transitions.specs.Table.{statesOf, tableLts}
 use Rattle.transitions.proofs.Lookups.{terminating-clear}
 use borrow.Author.Needs.{needs}
-use Rattle.simulation.proofs.write_preorder.Statement.{statement}
-use Rattle.simulation.proofs.write_preorder.Tie as tie
-use Rattle.simulation.proofs.write_preorder.Reads as reads
-use Rattle.simulation.proofs.write_preorder.Lts as lts
-use Rattle.relation.proofs.write_termination.Reads as write-termination-reads
-use Rattle.transitions.proofs.states.Reads as states-reads
-use Rattle.transitions.proofs.terminating.Reads as terminating-reads
+use Rattle.starts.proofs.write_end.Statement.{statement}
+use Rattle.starts.proofs.write_end.Tie as tie
 
 states-requires : tie.Need-states-requires
 states-requires c κs = search needs
@@ -46,7 +40,7 @@ returns c =
     ∙ ap (λ (n : ℕ). matrixOf n (λ p q. inRow (ends .result) p ⇒ inRow (ends .result) q)) (c .before .before .before .before .before .before .states .ensures .0)
     ∙ termination-written (statesOf t) (tableLts t) (start .pre .0 .states) (ends .ensures)
 
-pub write-preorder-spec : {M : Type 1} → statement M
-write-preorder-spec =
+pub write-end-spec : {M : Type 1} → statement M
+write-end-spec =
     tie.close
     (tie.spec states-requires terminating-requires write-termination-requires same-length returns)
