@@ -1,6 +1,6 @@
 -- Laws of lists given by a function, and of rows of words. Assumes nothing.
 use mathlib.Core.Path.{_≡_, refl, sym, ap, ap₂, _∙_, subst⁻¹}
-use mathlib.Core.Bool.{Bool, true, false, not, _&&_, _||_, xor}
+use mathlib.Core.Bool.{Bool, true, false, not, _&&_, _||_, xor, and-true, and-false}
 use mathlib.Core.Logic.{_⊎_, inl, inr, ⊎-elim}
 use mathlib.Core.List.{List, _++_, append-nil}
 use Prim.Native.Nat.{ℕ, zero, suc, _+_, _-_, _*_, _/_, _%_, _^_, _≤_, _<_}
@@ -13,13 +13,13 @@ use lib.Seq.{length-take-le, getD-drop, getD-append-add, getD-set-same, getD-set
 use lib.Dec.{eqb, ltb}
 use lib.Pow.{pow-pos}
 use borrow.Rule.Slice.PartMut.{putMid}
-use borrow.Author.Tests.{lt-ltb, le-ltb, eq-eqb, ne-eqb}
+use borrow.Author.Tests.{lt-ltb, le-ltb, eq-eqb, ne-eqb, eqb-true, ltb-true}
 use Rattle.lts.specs.Bounded.{anyBelow, passing}
 use Rattle.lts.specs.System.{Set}
 use Rattle.lts.proofs.Count.{passing-shorter}
 use Rattle.rows.specs.Rows.{bit, inRow, wordAt, rowOf, statesBelow, Next}
 use Rattle.rows.proofs.Bits.{bit-of-zero, word-ext, wordOf-lt, bit-wordOf, bit-and, bit-or, bit-xor, bit-not, bit-pow, one-shl}
-use Rattle.lts.proofs.Below.{any-yes, any-no, any-more, listBelow-cong, getD-listBelow, length-listBelow, fill-more, getD-fill, list-ext, lt-or-ge}
+use Rattle.lts.proofs.Below.{any-yes, any-no, any-more, any-some, bool-iff, and-fst, and-snd, listBelow-cong, getD-listBelow, length-listBelow, fill-more, getD-fill, list-ext, lt-or-ge}
 
 -- ---- a row of words
 
@@ -304,3 +304,34 @@ next-place f k from r i next e l =
     let same : length (passing r f) ≡ i = ap length (passing-shorter from r f (next .above) (next .none)) ∙ e in
     let low : r < k = ⊎-elim (λ (z : r ≡ k). absurd (omega (arith, l, same, ap (λ (x : ℕ). length (passing x f)) z))) (λ (m : r < k). m) (eq-or-lt-of-le (next .below)) in
     (low, next .member low, same)
+
+-- ---- a row that the states of S are put into one by one
+
+-- state i is put in at turn i, if S has it
+abbrev pick : Set → ℕ → ℕ → Bool
+pick S q i = eqb q i && S i
+
+abbrev pub picked : Set → ℕ → List ℕ
+picked S = gathered (replicate {A = ℕ} 4 0) (pick S)
+
+pub picked-none : (S : Set) → replicate {A = ℕ} 4 0 ≡ picked S 0
+picked-none S = gather-none (replicate {A = ℕ} 4 0) (pick S) (λ j. subst⁻¹ (λ (x : ℕ). x < 2 ^ 64) (getD-zeros 4 j) (pow-pos 64))
+
+pub picked-in : (S : Set) (p : ℕ) {row : List ℕ} → row ≡ picked S p → S p ≡ true → rowOf (length row) (λ x. eqb x p || inRow row x) ≡ picked S (p + 1)
+picked-in S p now e = gather-in (replicate {A = ℕ} 4 0) (pick S) p p now (λ q. ap (λ (b : Bool). eqb q p && b) e ∙ and-true (eqb q p))
+
+pub picked-out : (S : Set) (p : ℕ) {row : List ℕ} → row ≡ picked S p → S p ≡ false → row ≡ picked S (p + 1)
+picked-out S p now e = gather-out (replicate {A = ℕ} 4 0) (pick S) p now (λ q. ap (λ (b : Bool). eqb q p && b) e ∙ and-false (eqb q p))
+
+pub picked-all : (S : Set) (n : ℕ) → picked S n ≡ rowOf 4 (statesBelow n S)
+picked-all S n = rowOf-cong 4 _ _ (λ q h. ap (λ (b : Bool). b || anyBelow n (pick S q)) (inRow-zeros 4 q) ∙ bool-iff (to q) (from q))
+  where
+    to : (q : ℕ) → anyBelow n (pick S q) ≡ true → statesBelow n S q ≡ true
+    to q e =
+        let s = any-some n (pick S q) e in
+        let i = s .0 in
+        let same = eqb-true q i (and-fst (eqb q i) (S i) (s .2)) in
+        states-in n S q (subst⁻¹ (λ (x : ℕ). x < n) same (s .1)) ∙ ap S same ∙ and-snd (eqb q i) (S i) (s .2)
+
+    from : (q : ℕ) → statesBelow n S q ≡ true → anyBelow n (pick S q) ≡ true
+    from q e = sym (any-yes n (pick S q) q (ltb-true q n (and-fst (ltb q n) (S q) e)) (ap (λ (b : Bool). b && S q) (eq-eqb q q refl) ∙ and-snd (ltb q n) (S q) e))

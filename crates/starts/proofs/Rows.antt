@@ -1,52 +1,22 @@
--- The states with the same word, gathered one by one; the row of the ready start that is made of them, and that row in the matrix.
+-- Row p of the ready start, made of the states with p's word; and that row in the matrix.
 use Prim.Native.Nat.{ℕ, _≤_, _<_}
 use native.Mathlib.Omega.{arith}
 use mathlib.Core.Path.{_≡_, refl, sym, ap, _∙_}
-use mathlib.Core.Logic.{_⊎_, inl, inr, ⊎-elim}
-use mathlib.Core.Bool.{Bool, true, false, _&&_, _||_, and-true, and-false}
+use mathlib.Core.Logic.{⊎-elim}
+use mathlib.Core.Bool.{Bool, true, false, _&&_}
 use mathlib.Core.List.{List, _++_}
-use lib.Dec.{eqb, ltb}
-use lib.ListN.{length, getD, drop, replicate}
-use borrow.Author.Tests.{eq-eqb, ne-eqb, lt-ltb, le-ltb, eqb-true}
-use Rattle.lts.specs.Bounded.{_⇒_, anyBelow}
+use lib.Dec.{ltb}
+use lib.ListN.{length, getD, drop}
+use Rattle.lts.specs.Bounded.{_⇒_}
 use Rattle.lts.specs.Ready.{readyPreorder}
-use Rattle.lts.proofs.Below.{any-yes, any-no, either, lt-or-ge, length-listBelow}
+use Rattle.lts.proofs.Below.{lt-or-ge, length-listBelow}
 use Rattle.rows.specs.Rows.{inRow, rowOf, rowWords, statesBelow}
-use Rattle.rows.proofs.Rows.{gathered, rowOf-cong, row-whole, inRow-of, inRow-zeros, states-in, states-out}
+use Rattle.rows.proofs.Rows.{rowOf-cong, row-whole, inRow-of, states-in, states-out}
 use Rattle.transitions.specs.Table.{statesOf, tableLts, Formed}
 use Rattle.transitions.proofs.Entries.{table-formed}
 use Rattle.transitions.proofs.Lookups.{terminating-at}
 use Rattle.starts.specs.Start.{actionBits, sameSet, readyRow}
 use Rattle.starts.proofs.Words.{ready-row}
-
-module _ (words : List ℕ) (p : ℕ) where
-  -- turn i puts state q in
-  abbrev pub like : ℕ → ℕ → Bool
-  like q i = eqb q i && sameSet (getD words p 0) (getD words i 0)
-
-  pub like-on : (i : ℕ) → sameSet (getD words p 0) (getD words i 0) ≡ true → (q : ℕ) → like q i ≡ eqb q i
-  like-on i e q = rw e (and-true (eqb q i))
-
-  pub like-off : (i : ℕ) → sameSet (getD words p 0) (getD words i 0) ≡ false → (q : ℕ) → like q i ≡ false
-  like-off i e q = rw e (and-false (eqb q i))
-
-  like-any : (n q : ℕ) → anyBelow n (like q) ≡ statesBelow n (λ q. sameSet (getD words p 0) (getD words q 0)) q
-  like-any n q = ⊎-elim
-      (λ (h : q < n). rw (lt-ltb q n h) (inside h (either (same q))))
-      (λ (h : n ≤ q). rw (le-ltb q n h) (sym (any-no n (like q) (λ i l. rw (ne-eqb q i (λ e. omega (arith, e, h, l)))))))
-      (lt-or-ge q n)
-    where
-      same : ℕ → Bool
-      same q = sameSet (getD words p 0) (getD words q 0)
-
-      inside : q < n → (same q ≡ true) ⊎ (same q ≡ false) → anyBelow n (like q) ≡ same q
-      inside h (inl e) = sym (any-yes n (like q) q h (rw (eq-eqb q q refl, e))) ∙ sym e
-      inside h (inr e) = sym (any-no n (like q) (λ i l. ⊎-elim
-          (λ (d : eqb q i ≡ true). let same = eqb-true q i d in rw (← same, e) (and-false (eqb q q)))
-          (λ (d : eqb q i ≡ false). rw d) (either (eqb q i)))) ∙ sym e
-
-  pub like-end : (n : ℕ) → gathered (replicate 4 0) (like) n ≡ rowOf 4 (statesBelow n (λ q. sameSet (getD words p 0) (getD words q 0)))
-  like-end n = rowOf-cong 4 _ _ (λ q h. ap (λ (b : Bool). b || anyBelow n (like q)) (inRow-zeros 4 q) ∙ like-any n q)
 
 -- ## Row p of the ready start
 module _ (ends words : List ℕ) (n p : ℕ) {row : List ℕ} (is : row ≡ rowOf 4 (statesBelow n (λ q. sameSet (getD words p 0) (getD words q 0)))) where

@@ -1,57 +1,22 @@
 -- Which states are settled in a round: those whose rows the round left as they were. Assumes nothing.
-use Prim.Native.Nat.{ℕ, _+_, _*_, _^_, _<_}
-use mathlib.Core.Path.{_≡_, refl, sym, _∙_, ap, ap₂, subst⁻¹}
-use mathlib.Core.Bool.{Bool, true, false, not, _&&_, _||_, xor, and-true, and-false}
+use Prim.Native.Nat.{ℕ, _*_, _<_}
+use mathlib.Core.Path.{_≡_, refl, sym, _∙_, ap, ap₂}
+use mathlib.Core.Bool.{Bool, true, false, not, _&&_, _||_, xor}
 use mathlib.Core.List.{List}
 use native.Mathlib.Omega.{arith}
-use borrow.Author.Tests.{eq-eqb, eqb-true, ltb-true, not-true}
-use lib.Dec.{eqb, ltb}
-use lib.ListN.{length, drop, replicate}
-use lib.Pow.{pow-pos}
+use borrow.Author.Tests.{eq-eqb, not-true}
+use lib.ListN.{drop, replicate}
 use Rattle.lts.specs.Bounded.{anyBelow, allBelow, restrict}
-use Rattle.lts.specs.System.{Set, Rel, Lts, into, anyState}
+use Rattle.lts.specs.System.{Rel, Lts, into, anyState}
 use Rattle.rows.specs.Rows.{inRow, rowOf, rowWords, statesBelow}
 use Rattle.transitions.specs.Table.{statesOf, countOf, sourceAt, actionAt, targetAt, tableLts, Formed}
 use Rattle.relation.specs.Matrix.{relationOf, matrixOf, Matrix}
-use Rattle.lts.proofs.Below.{clash, bool-iff, and-fst, and-snd, all-at, any-yes, any-some, any-cong}
-use Rattle.rows.proofs.Rows.{inRow-of, inRow-zeros, getD-zeros, rowOf-cong, gathered, gather-none, gather-in, gather-out, states-in}
+use Rattle.lts.proofs.Below.{clash, and-snd, all-at, any-yes, any-cong}
+use Rattle.rows.proofs.Rows.{inRow-of, inRow-zeros, states-in}
 use Rattle.relation.proofs.Matrices.{relation-of}
 use Rattle.relation.proofs.Checks.{rows-differ}
 use Rattle.strategy_rounds.specs.Rounds.{nextRound, Settled, sameRows}
 use Rattle.strategy_rounds.proofs.Steps.{answersAt, kept, kept-all}
-
--- ---- a row that the states of S are put into one by one
-
-unfoldable pub mark : Set → ℕ → ℕ → Bool
-mark S q i = eqb q i && S i
-
-abbrev pub marked : Set → ℕ → List ℕ
-marked S = gathered (replicate {A = ℕ} 4 0) (mark S)
-
-pub marked-none : (S : Set) → replicate {A = ℕ} 4 0 ≡ marked S 0
-marked-none S = gather-none (replicate {A = ℕ} 4 0) (mark S) (λ j. subst⁻¹ (λ (x : ℕ). x < 2 ^ 64) (getD-zeros 4 j) (pow-pos 64))
-
-pub marked-in : (S : Set) (p : ℕ) {row : List ℕ} → row ≡ marked S p → S p ≡ true → rowOf (length row) (λ x. eqb x p || inRow row x) ≡ marked S (p + 1)
-unfolding mark
-marked-in S p now e = gather-in (replicate {A = ℕ} 4 0) (mark S) p p now (λ q. ap (λ (b : Bool). eqb q p && b) e ∙ and-true (eqb q p))
-
-pub marked-out : (S : Set) (p : ℕ) {row : List ℕ} → row ≡ marked S p → S p ≡ false → row ≡ marked S (p + 1)
-unfolding mark
-marked-out S p now e = gather-out (replicate {A = ℕ} 4 0) (mark S) p now (λ q. ap (λ (b : Bool). eqb q p && b) e ∙ and-false (eqb q p))
-
-pub marked-all : (S : Set) (n : ℕ) → marked S n ≡ rowOf 4 (statesBelow n S)
-unfolding mark
-marked-all S n = rowOf-cong 4 _ _ (λ q h. ap (λ (b : Bool). b || anyBelow n (mark S q)) (inRow-zeros 4 q) ∙ bool-iff (to q) (from q))
-  where
-    to : (q : ℕ) → anyBelow n (mark S q) ≡ true → statesBelow n S q ≡ true
-    to q e =
-        let s = any-some n (mark S q) e in
-        let i = s .0 in
-        let same = eqb-true q i (and-fst (eqb q i) (S i) (s .2)) in
-        states-in n S q (subst⁻¹ (λ (x : ℕ). x < n) same (s .1)) ∙ ap S same ∙ and-snd (eqb q i) (S i) (s .2)
-
-    from : (q : ℕ) → statesBelow n S q ≡ true → anyBelow n (mark S q) ≡ true
-    from q e = sym (any-yes n (mark S q) q (ltb-true q n (and-fst (ltb q n) (S q) e)) (ap (λ (b : Bool). b && S q) (eq-eqb q q refl) ∙ and-snd (ltb q n) (S q) e))
 
 -- ---- the states whose rows are the same
 

@@ -7,14 +7,14 @@ use mathlib.Core.List.{List}
 use native.Mathlib.Omega.{arith}
 use lib.Dec.{T, eqb, eqb→eq}
 use lib.ListN.{replicate}
-use borrow.Author.Tests.{eq-eqb, ne-eqb, lt-ltb, le-ltb, eqb-true}
+use borrow.Author.Tests.{eq-eqb, ne-eqb, le-ltb, eqb-true}
 use Rattle.lts.specs.Bounded.{anyBelow}
 use Rattle.lts.specs.System.{Set, into}
 use Rattle.lts.proofs.Bounded.{and-iff, any-iff, test-ext}
-use Rattle.lts.proofs.Below.{eqb-sym, lt-or-ge, either, true-T, T-true, neither, any-no, any-yes, any-shorter, and-fst, and-snd, clash}
+use Rattle.lts.proofs.Below.{eqb-sym, either, true-T, T-true, neither, any-no, any-shorter, and-fst, and-snd, clash}
 use Rattle.lts.proofs.System.{into-to, into-from}
 use Rattle.rows.specs.Rows.{inRow, rowOf}
-use Rattle.rows.proofs.Rows.{gathered, rowOf-cong, inRow-of, inRow-zeros}
+use Rattle.rows.proofs.Rows.{gathered, picked, picked-all, rowOf-cong, inRow-of, inRow-zeros}
 use Rattle.transitions.specs.Table.{statesOf, countOf, markAt, offsetAt, sourceAt, actionAt, targetAt, isEntry, enters, tableLts, Formed}
 use Rattle.transitions.proofs.Entries.{eqb-of, entry-leads, entry-of, table-formed, offset-most, InRow, Between, between-none, between-more, row-transition, transition-row}
 
@@ -77,29 +77,10 @@ target-in table ok p a {t} h e = ap (λ (l : List ℕ). inRow l t) e ∙ inRow-o
 -- ---- the terminating states
 
 module _ (t : List ℕ) where
-  abbrev pub ended : ℕ → ℕ → Bool
-  ended q i = eqb q i && eqb (markAt t i) 1
-
-  pub ended-on : (i : ℕ) → markAt t i ≡ 1 → (q : ℕ) → ended q i ≡ eqb q i
-  ended-on i e q = rw (eq-eqb (markAt t i) 1 e) (and-true (eqb q i))
-
-  pub ended-off : (i : ℕ) → (markAt t i ≡ 1 → ⊥) → (q : ℕ) → ended q i ≡ false
-  ended-off i ne q = rw (ne-eqb (markAt t i) 1 ne) (and-false (eqb q i))
-
-  pub ended-end : (q : ℕ) → anyBelow (statesOf t) (ended q) ≡ tableLts t .terminating q
+  -- the states with the end mark, picked out one by one
+  pub terminating-picked : picked (λ p. eqb (markAt t p) 1) (statesOf t) ≡ rowOf 4 (tableLts t .terminating)
   unfolding tableLts
-  ended-end q = ⊎-elim (λ (h : q < statesOf t). rw (lt-ltb q (statesOf t) h) (inside h (either (eqb (markAt t q) 1))))
-      (λ (h : statesOf t ≤ q). rw (le-ltb q (statesOf t) h) (sym (any-no (statesOf t) (ended q) (λ i l. other i (λ e. omega (arith, e, h, l))))))
-      (lt-or-ge q (statesOf t))
-    where
-      other : (i : ℕ) → (q ≡ i → ⊥) → ended q i ≡ false
-      other i ne = rw (ne-eqb q i ne)
-
-      inside : q < statesOf t → (eqb (markAt t q) 1 ≡ true) ⊎ (eqb (markAt t q) 1 ≡ false) → anyBelow (statesOf t) (ended q) ≡ eqb (markAt t q) 1
-      inside h (inl e) = sym (any-yes (statesOf t) (ended q) q h (rw (eq-eqb q q refl, e))) ∙ sym e
-      inside h (inr e) = sym (any-no (statesOf t) (ended q) (λ i l. ⊎-elim
-          (λ (d : eqb q i ≡ true). let same = eqb-true q i d in rw (← same, e) (and-false (eqb q q)))
-          (λ (d : eqb q i ≡ false). rw d) (either (eqb q i)))) ∙ sym e
+  terminating-picked = picked-all (λ p. eqb (markAt t p) 1) (statesOf t)
 
   -- the row of the terminating states has them, and no number that is no state's
   module _ {ends : List ℕ} (e : ends ≡ rowOf 4 (tableLts t .terminating)) where

@@ -1,25 +1,26 @@
 -- `starts::alike` meets its contract: what is gathered state by state.
-use Prim.Native.Nat.{_+_, _-_, _≤_}
+use Prim.Native.Nat.{_-_, _≤_}
 use mathlib.Core.Path.{_≡_, sym, ap, _∙_}
 use mathlib.Core.Logic.{⊎-elim}
 use native.Mathlib.Omega.{arith}
-use lib.ListN.{length, replicate}
+use lib.ListN.{length, getD}
 use denote.Ref.{now}
+use Rattle.lts.specs.System.{Set}
 use Rattle.lts.proofs.Below.{length-listBelow}
-use Rattle.rows.proofs.Rows.{gathered, gather-none, gather-in, gather-out, getD-zeros}
-use Rattle.starts.proofs.Rows.{like, like-on, like-off, like-end}
+use Rattle.rows.proofs.Rows.{picked, picked-none, picked-in, picked-out, picked-all}
+use Rattle.starts.specs.Start.{sameSet}
 use borrow.Author.Needs.{needs}
 use Rattle.starts.proofs.alike.Statement.{statement}
 use Rattle.starts.proofs.alike.Tie as tie
 
 abbrev Inv-loop : tie.InvT-loop
-Inv-loop words n p set₀ q₀ set q = (q ≤ n) × (set ≡ gathered (replicate 4 0) (like words p) q)
+Inv-loop words n p set₀ q₀ set q = (q ≤ n) × (set ≡ picked (λ i. sameSet (getD words p 0) (getD words i 0)) q)
 
 abbrev μ-loop : tie.MeasureT-loop
 μ-loop words n p set₀ q₀ set q = n - q
 
 loop-holds : tie.Need-loop-holds Inv-loop μ-loop
-loop-holds c = (search needs, gather-none (replicate 4 0) _ (λ j. rw getD-zeros (omega arith)))
+loop-holds c = (search needs, picked-none _)
 
 mul-same-set : tie.Need-mul-same-set Inv-loop μ-loop
 mul-same-set c = search needs
@@ -48,28 +49,25 @@ add-q c = search needs
 loop-less : tie.Need-loop-less Inv-loop μ-loop
 loop-less c = search needs
 
--- a turn
-next : (c : tie.Joined1 Inv-loop μ-loop) → let a = c .before .before .before .before .before .before .args in
-    c .if1 .set ≡ gathered (replicate 4 0) (like (now (a .words)) (a .p)) (c .before .before .before .before .before .loop .q + 1)
-next c =
+loop-again : tie.Need-loop-again Inv-loop μ-loop
+loop-again c =
     let at = c .before .before .before .before .before in
     let a = at .before .args in
-    let words = now (a .words) in
-    let same = c .before .same-set .ensures in
-    ⊎-elim
-    (λ w. w .4 ∙ w .2 .ensures ∙ gather-in (replicate 4 0) (like words (a .p)) (at .loop .q) (at .loop .q) (at .loop .inv .1) (like-on words (a .p) (at .loop .q) (sym same ∙ w .0 .taken)))
-    (λ w. w .1 ∙ gather-out (replicate 4 0) (like words (a .p)) (at .loop .q) (at .loop .inv .1) (like-off words (a .p) (at .loop .q) (sym same ∙ w .0 .left)))
-    (c .if1 .came)
-
-loop-again : tie.Need-loop-again Inv-loop μ-loop
-loop-again c = (search needs, next c)
+    let S : Set = λ i. sameSet (getD (now (a .words)) (a .p) 0) (getD (now (a .words)) i 0) in
+    let same = c .before .same-set .ensures in (
+      search needs,
+      ⊎-elim
+          (λ w. w .4 ∙ w .2 .ensures ∙ picked-in S (at .loop .q) (at .loop .inv .1) (sym same ∙ w .0 .taken))
+          (λ w. w .1 ∙ picked-out S (at .loop .q) (at .loop .inv .1) (sym same ∙ w .0 .left))
+          (c .if1 .came),
+    )
 
 returns : tie.Need-returns Inv-loop μ-loop
 returns c =
     let a = c .before .before .args in
     let l = c .before .loop in
     let end : l .q ≡ a .n = omega (arith, l .inv .0, c .loop-test .left) in
-    l .inv .1 ∙ ap (gathered (replicate 4 0) (like (now (a .words)) (a .p))) end ∙ like-end (now (a .words)) (a .p) (a .n)
+    l .inv .1 ∙ ap (picked _) end ∙ picked-all _ (a .n)
 
 pub alike-spec : {M : Type 1} → statement M
 alike-spec =
