@@ -60,10 +60,10 @@ module _ (L : Lts) (r : Run) (n : ℕ) (size : L .states ≡ n) (related blocks 
   same-blocks = relation-of n _ blocks-is
 
   pub names-is : (representatives : List ℕ) → representatives ≡ listBelow n (λ p. lowest n (relationOf n blocks p)) → representatives ≡ representativesOf L K
-  names-is representatives e = e ∙ partition.names-are L (r .final) n K (r .final .viewed) (relationOf n blocks) size same-related (λ _ _ _ _. refl) same-blocks
+  names-is representatives e = e ∙ partition.names-are L (r .final) n K (relationOf n blocks) size same-related same-blocks
 
   pub blocks-count : countBelow n (λ p. eqb (lowest n (relationOf n blocks p)) p) ≡ blockCount L K
-  blocks-count = partition.block-count-is L (r .final) n K (r .final .viewed) (relationOf n blocks) size same-related (λ _ _ _ _. refl) same-blocks
+  blocks-count = partition.block-count-is L (r .final) n K (relationOf n blocks) size same-related same-blocks
 
   pub pairs-count : pairsBelow n (relationOf n related) ≡ pairCount L K
   unfolding pairsBelow pairCount countBelow

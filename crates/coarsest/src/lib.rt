@@ -24,24 +24,23 @@ pub enum Answer {
     Refused(lts::Refusal),
 }
 
-// The run on a table: K, the representatives and the counts. V and the blocks are the caller's.
+// The run on a table: K, the representatives and the counts. The blocks are the caller's.
 fn refine_in(
     table: &transitions::Table,
     start: &[u64],
     schedule: &[u16],
     related: &mut [u64],
     representatives: &mut [u16],
-    viewed: &mut [u64],
     blocks: &mut [u64],
 ) -> Counts
     requires { ⌜ Formed (now table) × Start (statesOf (now table)) (now start) × (length (now representatives) ≡ statesOf (now table)) ⌝ }
     requires { ⌜ (let words = statesOf (now table) * rowWords (statesOf (now table)) in
-        (length (now related) ≡ words) × (length (now viewed) ≡ words) × (length (now blocks) ≡ words)) ⌝ }
+        (length (now related) ≡ words) × (length (now blocks) ≡ words)) ⌝ }
     ensures { λ r. ⌜ (let t = now (table .entry) in
         refined (tableLts t) (relationOf (statesOf t) (now (start .entry))) (now (schedule .entry))
         ≡ record { reply = coarsestReply (Done r); grid = now (related .exit); representatives = now (representatives .exit) }) ⌝ }
 {
-    let steps = refinement::refine_all(table, start, schedule, related, viewed, blocks);
+    let steps = refinement::refine_all(table, start, schedule, related, blocks);
     let n = transitions::states(table);
     partition::write_names(blocks, n, representatives);
     Counts {
@@ -65,7 +64,6 @@ pub fn refine_table(
         refined (tableLts t) (relationOf (statesOf t) (now (start .entry))) (now (schedule .entry))
         ≡ record { reply = coarsestReply (Done r); grid = now (related .exit); representatives = now (representatives .exit) }) ⌝ }
 {
-    let mut viewed = [0u64; 1024];
     let mut blocks = [0u64; 1024];
     let size = relation::matrix_words(transitions::states(table));
     refine_in(
@@ -74,7 +72,6 @@ pub fn refine_table(
         schedule,
         related,
         representatives,
-        &mut viewed[..size],
         &mut blocks[..size],
     )
 }

@@ -1,6 +1,6 @@
 -- Coarsest on bytes: what its rules say of the lengths, what is carried back, what a run uses of its schedule, and how large its counts are.
-use Prim.Native.Nat.{ℕ, _*_, _-_, _≤_}
-use native.Mathlib.Nat.{le-refl, mul-le-mul}
+use Prim.Native.Nat.{ℕ, _*_, _-_, _/_, _<_, _≤_}
+use native.Mathlib.Nat.{le-refl, le-trans, mul-le-mul}
 use native.Mathlib.Omega.{arith}
 use mathlib.Core.Path.{_≡_, refl, sym, ap, subst, _∙_}
 use mathlib.Core.Logic.{⊎-elim}
@@ -8,7 +8,7 @@ use mathlib.Core.Bool.{_&&_}
 use mathlib.Core.List.{List, [], _∷_, head-eq-of-cons-eq}
 use lib.Dec.{T, eqb, eqb→eq}
 use lib.ListN.{length, take}
-use lib.Seq.{getD-take}
+use lib.Seq.{getD-take, take-all, length-take-le}
 use Rattle.lts.specs.Bounded.{countBelow}
 use Rattle.lts.specs.Refinement.{pairCount, blockCount, isRepresentative, representatives as representativesOf, coarsest}
 use Rattle.lts.specs.declared.Refusal.{Refusal}
@@ -24,12 +24,12 @@ use Rattle.encoding.specs.Denotation.{ltsOf}
 use Rattle.rows.specs.Rows.{rowWords}
 use Rattle.relation.specs.Matrix.{relationOf}
 use Rattle.relation.proofs.Matrices.{matrix-small, length-matrixOf}
-use Rattle.lts.proofs.Below.{length-listBelow}
+use Rattle.lts.proofs.Below.{length-listBelow, lt-or-ge}
 use Rattle.inputs.specs.Inputs.{inputRules}
 use Rattle.inputs.proofs.Laws.{kept-ready}
-use Rattle.carry.specs.Carried.{stored}
+use Rattle.carry.specs.Carried.{listOf, stored}
 use Rattle.carry.specs.Bytes.{wordsOf, stateNumbers}
-use Rattle.carry.proofs.Laws.{stored-all}
+use Rattle.carry.proofs.Laws.{stored-all, numbers-front, numbers-take}
 use Rattle.carry.proofs.Bytes.{same-length}
 use Rattle.coarsest.specs.declared.Counts.{Counts}
 use Rattle.coarsest.specs.declared.Answer.{Answer}
@@ -60,18 +60,22 @@ module _ (s start words numbers : List ℕ) (ok : broken (coarsestRules s start 
   unfolding ltsOf
   states = refl
 
-  -- a run makes at most 256 * 255 steps, so it uses no more of its schedule
-  steps-few : (es : List ℕ) → coarsest (ltsOf s) (relationOf n start) es .steps ≤ 65280
-  steps-few es =
-      let f : ltsOf s .states ≤ 256 = omega (arith, states, bounds .states) in
-      let g : ltsOf s .states - 1 ≤ 255 = omega arith in
-      let m : ltsOf s .states * (ltsOf s .states - 1) ≤ 256 * 255 = mul-le-mul f g in
-      omega (arith, promised s start es words numbers _ _ _ refl .answers ok .bound, m)
+  -- a run on at most k states makes at most k * (k - 1) steps, so it uses no more of its schedule
+  steps-within : (k : ℕ) (es : List ℕ) → n ≤ k → coarsest (ltsOf s) (relationOf n start) es .steps ≤ k * (k - 1)
+  steps-within k es few =
+      let f : ltsOf s .states ≤ k = omega (arith, states, few) in
+      let g : ltsOf s .states - 1 ≤ k - 1 = omega (arith, f) in
+      le-trans (promised s start es words numbers _ _ _ refl .answers ok .bound) (mul-le-mul f g)
 
-  refined-cut : (most : ℕ) (es : List ℕ) → 65280 ≤ most → refined (ltsOf s) (relationOf n start) (take most es) ≡ refined (ltsOf s) (relationOf n start) es
+  steps-few : (es : List ℕ) → coarsest (ltsOf s) (relationOf n start) es .steps ≤ 65280
+  steps-few es = steps-within 256 es (bounds .states)
+
+  refined-cut : (k most : ℕ) (es : List ℕ) → n ≤ k → k * (k - 1) ≤ most
+      → refined (ltsOf s) (relationOf n start) (take most es) ≡ refined (ltsOf s) (relationOf n start) es
   unfolding refined
-  refined-cut most es l =
-      rw (coarsest-same (ltsOf s) (relationOf n start) (take most es) es (λ j b. getD-take most es j 0 (omega (arith, steps-few (take most es)))))
+  refined-cut k most es few l =
+      let fits = le-trans (steps-within k (take most es) few) l in
+      rw (coarsest-same (ltsOf s) (relationOf n start) (take most es) es (λ j b. getD-take most es j 0 (le-trans b fits)))
 
 -- the lengths of both buffers in bytes
 module _ (s start grid representatives : List ℕ) (ok : broken (coarsestRules s start (wordsOf grid) (stateNumbers representatives)) ≡ Nothing) where
@@ -125,15 +129,34 @@ module _ (s start schedule grid representatives : List ℕ) where
         (finding rules)
 
   -- numbers of the schedule that no run uses change nothing
-  cut-same : (most : ℕ) → 65280 ≤ most → onWords (take most schedule) ≡ onWords schedule
+  cut-same : (k most : ℕ) → (broken rules ≡ Nothing → headerOf s .states ≤ k) → k * (k - 1) ≤ most → onWords (take most schedule) ≡ onWords schedule
   unfolding coarsestOnWords
-  cut-same most l = ⊎-elim
-      (λ k. passes rules _ _ k ∙ ap carriedBack (refined-cut s start _ _ k most schedule l) ∙ sym (passes rules _ _ k))
+  cut-same k most few l = ⊎-elim
+      (λ o. passes rules _ _ o ∙ ap carriedBack (refined-cut s start _ _ o k most schedule (few o) l) ∙ sym (passes rules _ _ o))
       (λ q. refuses rules _ _ (q .1) ∙ sym (refuses rules _ _ (q .1)))
       (finding rules)
 
   pub front-is : {es : List ℕ} → es ≡ take 65280 schedule → onWords es ≡ onWords schedule
-  front-is e = rw e (cut-same 65280 (le-refl 65280))
+  front-is e = rw e (cut-same 256 65280 (λ o. bounds s start _ _ o .states) (le-refl 65280))
+
+-- a schedule's first 512 bytes are enough for 16 states
+module _ (s start bytes grid representatives : List ℕ) where
+  abbrev onBytes : List ℕ → CoarsestOutcome
+  onBytes b = coarsestOnWords s start (listOf b) grid representatives
+
+  front-list : 512 < length bytes → listOf (take 512 bytes) ≡ take 256 (listOf bytes)
+  unfolding listOf
+  front-list h =
+      let l : length (take 512 bytes) ≡ 512 = length-take-le 512 bytes (omega arith) in
+      rw l (numbers-front 2 256 bytes (omega arith)) ∙ sym (numbers-take 2 256 (length bytes / 2) bytes (omega arith))
+
+  pub used-same : (k : ℕ) → k ≤ length bytes → (k < length bytes → (k ≡ 512) × (headerOf s .states ≤ 16)) → onBytes (take k bytes) ≡ onBytes bytes
+  used-same k h w = ⊎-elim
+      (λ (l : k < length bytes).
+      let e = w l .0 in
+      rw (e, front-list (omega (arith, l, e))) (cut-same s start (listOf bytes) grid representatives 16 256 (λ _. w l .1) (omega arith)))
+      (λ (g : length bytes ≤ k). rw (take-all k bytes g) refl)
+      (lt-or-ge k (length bytes))
 
 -- ## How large the counts are
 pub small : {s start schedule grid₀ representatives₀ grid representatives : List ℕ} {a : Answer} {c : Counts}

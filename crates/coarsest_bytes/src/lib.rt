@@ -1,7 +1,8 @@
 // Coarsest on bytes (document 01, "Hand play and comparison"): grids, turn lists and block names are carried as bytes, low byte first.
 ghost use mathlib.Core.Path.{_≡_};
-ghost use Prim.Native.Nat.{_≤_};
+ghost use Prim.Native.Nat.{_<_, _≤_};
 ghost use lib.ListN.{length};
+ghost use Rattle.encoding.specs.Records.{headerOf};
 ghost use Rattle.carry.specs.Carried.{listOf};
 ghost use Rattle.carry.specs.Bytes.{wordsOf, stateNumbers};
 ghost use Rattle.coarsest.specs.Call.{coarsestReply};
@@ -93,6 +94,22 @@ fn coarsest_long(
     coarsest_carried(s, start, &numbers[..k], grid, representatives)
 }
 
+// How many bytes of a schedule are used: a run on at most 16 states makes at most 256 steps.
+fn used(s: &[u8], len: usize) -> usize
+    ensures { λ r. ⌜ (r ≤ len) × (r < len → (r ≡ 512) × (headerOf (now (s .entry)) .states ≤ 16)) ⌝ }
+{
+    if len <= 512 {
+        return len;
+    }
+    if s.len() < encoding::Header::BYTES {
+        return len;
+    }
+    if encoding::Header::read(s).states <= 16 {
+        return 512;
+    }
+    len
+}
+
 // Coarsest on bytes.
 pub fn coarsest_on_bytes(
     s: &[u8],
@@ -109,8 +126,9 @@ pub fn coarsest_on_bytes(
     let mut words = [0u64; 1024];
     let w = carry::load_grid(start, &mut words);
     let start_words = &words[..w];
-    if schedule.len() <= 513 {
-        return coarsest_short(s, start_words, schedule, grid, representatives);
+    let k = used(s, schedule.len());
+    if k <= 513 {
+        return coarsest_short(s, start_words, &schedule[..k], grid, representatives);
     }
     coarsest_long(s, start_words, schedule, grid, representatives)
 }

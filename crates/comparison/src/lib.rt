@@ -43,17 +43,9 @@ pub fn relate(table: &transitions::Table, start: &[u64], related: &mut [u64]) ->
         now (related .exit) ≡ matrixOf (statesOf t) (run .final .related)) ⌝ }
 {
     let schedule: [u16; 0] = [];
-    let mut viewed = [0u64; 1024];
     let mut blocks = [0u64; 1024];
     let size = relation::matrix_words(transitions::states(table));
-    refinement::refine_all(
-        table,
-        start,
-        &schedule,
-        related,
-        &mut viewed[..size],
-        &mut blocks[..size],
-    )
+    refinement::refine_all(table, start, &schedule, related, &mut blocks[..size])
 }
 
 // Whether that run keeps the pair (0, q), and its steps.

@@ -1,26 +1,49 @@
--- Laws of columns, blocks and representatives of a bit matrix. Assumes nothing.
-use mathlib.Core.Path.{_≡_, refl, sym, ap, ap₂, _∙_, subst}
+-- Laws of blocks, of their representatives and of the pending ones. Assumes nothing.
+use mathlib.Core.Path.{_≡_, refl, sym, ap, ap₂, _∙_}
 use mathlib.Core.Bool.{Bool, true, false, cond, _&&_, _||_, xor, and-true, and-false, or-false}
 use mathlib.Core.List.{List, _++_, append-nil}
 use mathlib.Core.Logic.{⊎-elim}
-use Prim.Native.Nat.{ℕ, _+_, _*_, _%_, _≤_, _<_}
+use Prim.Native.Nat.{ℕ, _+_, _*_, _/_, _%_, _≤_, _<_}
 use native.Mathlib.Nat.{eq-or-lt-of-le}
 use native.Mathlib.Omega.{arith}
-use lib.Dec.{T, eqb}
+use lib.Dec.{eqb, ltb}
 use lib.ListN.{length, getD, drop, drop-of-length-le, replicate}
 use borrow.Author.Tests.{lt-ltb, le-ltb, eq-eqb, ne-eqb}
 use Rattle.lts.specs.Bounded.{anyBelow, sumBelow, countBelow, listBelow, passing, lowest}
-use Rattle.lts.specs.System.{Lts, anyState}
+use Rattle.lts.specs.System.{Set, Rel, Lts, anyState}
 use Rattle.lts.specs.Refinement.{Relations, block, representative, isRepresentative, pending, chosen, blockCount, representatives}
-use Rattle.lts.proofs.Bounded.{any-iff}
-use Rattle.lts.proofs.Count.{passing-at, passing-some}
-use Rattle.rows.specs.Rows.{wordOf, wordAt, inRow, rowOf, rowWords, statesBelow, Row}
+use Rattle.lts.proofs.Count.{passing-shorter}
+use Rattle.rows.specs.Rows.{bit, wordOf, wordAt, inRow, rowOf, rowWords, statesBelow}
+use Rattle.sets.specs.Sets.{window}
+use Rattle.sets.specs.Parts.{Parted, Owned}
 use Rattle.relation.specs.Matrix.{relationOf}
-use Rattle.lts.proofs.Below.{lt-or-ge, any-cong, sum-cong, length-listBelow, listBelow-cong, lowest-cong, lowest-agree, lowest-test}
+use Rattle.lts.proofs.Below.{lt-or-ge, either, and-fst, and-snd, any-no, any-cong, any-shorter, sum-cong, length-listBelow, listBelow-cong, lowest-cong, lowest-agree, lowest-test}
 use Rattle.rows.proofs.Rows.{rowOf-cong, inRow-of, states-in, states-out}
+use Rattle.sets.proofs.Lists.{set-in}
 use Rattle.relation.proofs.Matrices.{inRow-drop}
 use Rattle.lts.proofs.Lists.{passing-same}
-use Rattle.partition.specs.Pending.{pendingIn}
+use Rattle.partition.specs.Pending.{pendingIn, Ordered}
+
+-- whether the sets of x differ in two lists
+abbrev pub differs : Rel → Rel → Set
+differs A B x = anyBelow 256 (λ q. xor (A x q) (B x q))
+
+pub differs-at : (A B : Rel) (x : ℕ) {u v : List ℕ} → u ≡ rowOf 4 (A x) → v ≡ rowOf 4 (B x) → anyBelow 256 (λ q. xor (inRow u q) (inRow v q)) ≡ differs A B x
+differs-at A B x e f = any-cong 256 _ _ (λ q h. ap₂ xor (set-in (A x) e q h) (set-in (B x) f q h))
+
+-- two tests for one value
+pub cond-or : (a b x y : Bool) → cond a x (cond b x y) ≡ cond (a || b) x y
+cond-or true b x y = refl
+cond-or false b x y = refl
+
+-- the states of a word
+pub window-in : (c word q : ℕ) → q / 64 ≡ c → window c word q ≡ bit word (q % 64)
+unfolding window
+window-in c word q e = ap (λ (b : Bool). cond b (bit word (q % 64)) false) (eq-eqb (q / 64) c e)
+
+pub window-out : (c word q : ℕ) → (q / 64 ≡ c → ⊥) → window c word q ≡ false
+unfolding window
+window-out c word q ne = ap (λ (b : Bool). cond b (bit word (q % 64)) false) (ne-eqb (q / 64) c ne)
 
 -- ---- a row that states are put into one by one, ascending: after q states it holds those of S below q
 
@@ -59,21 +82,6 @@ states-same S a b h none x =
     (λ (l : a ≤ x). states-out a S x l ∙ sym (⊎-elim (λ (m : x < b). states-in b S x m ∙ none x l m) (λ (m : b ≤ x). states-out b S x m) (lt-or-ge x b)))
     (lt-or-ge x a)
 
--- a row of states below n
-pub states-clear : (n : ℕ) (S : ℕ → Bool) {row : List ℕ} → row ≡ rowOf 4 (statesBelow n S) → (q : ℕ) → n ≤ q → q < 256 → inRow row q ≡ false
-states-clear n S e q l h = ap (λ (r : List ℕ). inRow r q) e ∙ inRow-of 4 (statesBelow n S) q h ∙ states-out n S q l
-
-pub states-row : (n : ℕ) (S : ℕ → Bool) {row : List ℕ} → n ≤ 256 → row ≡ rowOf 4 (statesBelow n S) → Row n row
-states-row n S {row} h e = record {
-  long = omega (arith, ap length e, length-listBelow 4 (wordAt (statesBelow n S)));
-  clear = λ q l u. states-clear n S e q l (omega (arith, u, h));
-}
-
--- its states, listed
-pub passing-row : (n : ℕ) (S : ℕ → Bool) (row : List ℕ) → n ≤ 256 → row ≡ rowOf 4 (statesBelow n S) → passing n (inRow row) ≡ passing n S
-passing-row n S row small now =
-    passing-same n _ _ (λ q h. ap (λ (l : List ℕ). inRow l q) now ∙ inRow-of 4 (statesBelow n S) q (omega arith) ∙ states-in n S q h)
-
 -- whether p is the lowest state of its row, a part of a matrix that starts at the row's first word
 pub row-lowest-test : (n : ℕ) (g : List ℕ) (p : ℕ) {row : List ℕ} {w : ℕ} → w ≡ rowWords n → row ≡ drop (p * rowWords n) g → p < n
     → eqb (lowest (w * 64) (inRow row)) p ≡ eqb (lowest n (relationOf n g p)) p
@@ -87,10 +95,9 @@ pub fill-done : (f : ℕ → ℕ) (d l : List ℕ) (j n : ℕ) → l ≡ listBel
 fill-done f d l j n now end long =
     now ∙ ap₂ (λ (k : ℕ) (t : List ℕ). listBelow k f ++ t) end (drop-of-length-le d {i = j} (omega arith)) ∙ append-nil (listBelow n f)
 
--- ---- the pending blocks of the refinement rule, by matrices
+-- ---- the blocks of the refinement rule, by matrices
 
-module _ (L : Lts) (s : Relations) (n : ℕ) (K W P : ℕ → ℕ → Bool) (size : L .states ≡ n)
-    (related : (p q : ℕ) → p < n → q < n → K p q ≡ s .related p q) (viewed : (p q : ℕ) → p < n → q < n → W p q ≡ s .viewed p q)
+module _ (L : Lts) (s : Relations) (n : ℕ) (K P : Rel) (size : L .states ≡ n) (related : (p q : ℕ) → p < n → q < n → K p q ≡ s .related p q)
     (blocks : (p q : ℕ) → p < n → q < n → P p q ≡ block K p q) where
   pub block-is : (p q : ℕ) → p < n → q < n → P p q ≡ block (s .related) p q
   unfolding block
@@ -99,15 +106,6 @@ module _ (L : Lts) (s : Relations) (n : ℕ) (K W P : ℕ → ℕ → Bool) (siz
   pub representative-is : (p : ℕ) → p < n → lowest n (P p) ≡ representative L (s .related) p
   unfolding representative
   representative-is p hp = lowest-agree n _ _ (λ q hq. block-is p q hp hq) ∙ ap (λ (k : ℕ). lowest k (block (s .related) p)) (sym size)
-
-  pub pending-in-is : (p : ℕ) → p < n → pendingIn n K W P p ≡ pending L s p
-  unfolding pendingIn pending isRepresentative anyState
-  pending-in-is p hp =
-      ap₂ _&&_ (ap (λ (x : ℕ). eqb x p) (representative-is p hp))
-      (any-cong n _ _ (λ q hq. ap₂ xor (viewed p q hp hq) (related p q hp hq)) ∙ ap (λ (k : ℕ). anyBelow k (λ q. xor (s .viewed p q) (s .related p q))) (sym size))
-
-  pub passing-pending : passing n (pendingIn n K W P) ≡ passing (L .states) (pending L s)
-  passing-pending = passing-same n _ _ pending-in-is ∙ ap (λ (k : ℕ). passing k (pending L s)) (sym size)
 
   pub block-count-is : countBelow n (λ p. eqb (lowest n (P p)) p) ≡ blockCount L (s .related)
   unfolding countBelow blockCount isRepresentative
@@ -119,18 +117,76 @@ module _ (L : Lts) (s : Relations) (n : ℕ) (K W P : ℕ → ℕ → Bool) (siz
   unfolding representatives
   names-are = listBelow-cong n _ _ representative-is ∙ ap (λ (k : ℕ). listBelow k (representative L (s .related))) (sym size)
 
-  -- something is pending, or nothing is, by the number of listed representatives
-  pub some-pending : 0 < length (passing n (pendingIn n K W P)) → T (anyState L (pending L s))
-  unfolding anyState
-  some-pending h =
-      let at = passing-at (L .states) (pending L s) 0 (subst (λ (l : List ℕ). 0 < length l) passing-pending h) in
-      any-iff (L .states) (pending L s) .1 (getD (passing (L .states) (pending L s)) 0 0, at .0, at .1)
+-- ---- the pending blocks of the refinement rule, by lists of 256 sets that have no pair but those below n
 
-  pub none-pending : length (passing n (pendingIn n K W P)) ≡ 0 → T (anyState L (pending L s)) → ⊥
-  unfolding anyState
-  none-pending e t = omega (arith, passing-some (L .states) (pending L s) t, ap length passing-pending)
+module _ (L : Lts) (s : Relations) (n : ℕ) (K W P : Rel) (small : n ≤ 256) (size : L .states ≡ n)
+    (related : (p q : ℕ) → p < n → q < n → K p q ≡ s .related p q) (viewed : (p q : ℕ) → p < n → q < n → W p q ≡ s .viewed p q)
+    (blocks : (p q : ℕ) → p < n → q < n → P p q ≡ block K p q)
+    (related-in : (p q : ℕ) → p < 256 → q < 256 → K p q ≡ true → (p < n) × (q < n)) (viewed-in : (p q : ℕ) → p < 256 → q < 256 → W p q ≡ true → (p < n) × (q < n)) where
+  -- a pair that is not below n
+  off : (R : Rel) → ((p q : ℕ) → p < 256 → q < 256 → R p q ≡ true → (p < n) × (q < n)) → (p q : ℕ) → p < 256 → q < 256 → ((p < n) × (q < n) → ⊥) → R p q ≡ false
+  off R inside p q hp hq out = ⊎-elim (λ (e : R p q ≡ true). absurd (out (inside p q hp hq e))) (λ (e : R p q ≡ false). e) (either (R p q))
 
-  -- the representative at position e mod c of the c pending ones
-  pub chosen-is : (e : ℕ) → getD (passing n (pendingIn n K W P)) (e % length (passing n (pendingIn n K W P))) 0 ≡ chosen L e s
-  unfolding chosen
-  chosen-is e = ap (λ (l : List ℕ). getD l (e % length l) 0) passing-pending
+  same-off : (p q : ℕ) → p < 256 → q < 256 → ((p < n) × (q < n) → ⊥) → xor (W p q) (K p q) ≡ false
+  unfolding xor
+  same-off p q hp hq out = ap₂ xor (off W viewed-in p q hp hq out) (off K related-in p q hp hq out)
+
+  pub pending-in-is : (p : ℕ) → p < n → pendingIn 256 K W P p ≡ pending L s p
+  unfolding pendingIn pending isRepresentative anyState
+  pending-in-is p hp =
+      let wide : p < 256 = omega (arith, hp, small) in
+      ap₂ _&&_ (lowest-test n 256 (P p) p small hp ∙ ap (λ (x : ℕ). eqb x p) (representative-is L s n K P size related blocks p hp))
+      (any-shorter n 256 (λ q. xor (W p q) (K p q)) small (λ q l h. same-off p q wide h (λ b. omega (arith, b .1, l)))
+      ∙ any-cong n _ _ (λ q hq. ap₂ xor (viewed p q hp hq) (related p q hp hq)) ∙ ap (λ (k : ℕ). anyBelow k (λ q. xor (s .viewed p q) (s .related p q))) (sym size))
+
+  pub pending-off : (p : ℕ) → n ≤ p → p < 256 → pendingIn 256 K W P p ≡ false
+  unfolding pendingIn
+  pending-off p l h =
+      ap (λ (b : Bool). eqb (lowest 256 (P p)) p && b) (sym (any-no 256 _ (λ q hq. same-off p q h hq (λ b. omega (arith, b .0, l))))) ∙ and-false (eqb (lowest 256 (P p)) p)
+
+  pub pending-at : (p : ℕ) → p < 256 → pendingIn 256 K W P p ≡ ltb p n && pending L s p
+  pending-at p h =
+      ⊎-elim (λ (l : p < n). pending-in-is p l ∙ sym (ap (λ (b : Bool). b && pending L s p) (lt-ltb p n l)))
+      (λ (l : n ≤ p). pending-off p l h ∙ sym (ap (λ (b : Bool). b && pending L s p) (le-ltb p n l))) (lt-or-ge p n)
+
+  pub passing-pending : passing 256 (pendingIn 256 K W P) ≡ passing (L .states) (pending L s)
+  passing-pending =
+      passing-shorter n 256 (pendingIn 256 K W P) small (λ i l h. pending-off i l h) ∙ passing-same n _ _ pending-in-is ∙ ap (λ (k : ℕ). passing k (pending L s)) (sym size)
+
+  -- the row that the engine keeps: whether something is pending, and the representative at position e mod c of the c pending ones
+  module _ (row : List ℕ) (row-is : row ≡ rowOf 4 (pendingIn 256 K W P)) where
+    pub any-is : anyBelow 256 (inRow row) ≡ anyState L (pending L s)
+    unfolding anyState
+    any-is =
+        any-cong 256 _ _ (λ q h. set-in (pendingIn 256 K W P) row-is q h) ∙ any-shorter n 256 (pendingIn 256 K W P) small (λ i l h. pending-off i l h)
+        ∙ any-cong n _ _ pending-in-is ∙ ap (λ (k : ℕ). anyBelow k (pending L s)) (sym size)
+
+    pub listed : passing 256 (inRow row) ≡ passing (L .states) (pending L s)
+    listed = passing-same 256 _ _ (λ q h. set-in (pendingIn 256 K W P) row-is q h) ∙ passing-pending
+
+    pub chosen-is : (e : ℕ) → getD (passing 256 (inRow row)) (e % length (passing 256 (inRow row))) 0 ≡ chosen L e s
+    unfolding chosen
+    chosen-is e = ap (λ (l : List ℕ). getD l (e % length l) 0) listed
+
+-- ---- the blocks of a preorder
+
+module _ (n : ℕ) (K P : Rel) (ok : Ordered n K) (blocks : (p q : ℕ) → p < 256 → q < 256 → P p q ≡ block K p q) where
+  -- any set of which a state outside is alone
+  pub blocks-parted : (S : Set) → ((g h : ℕ) → g < 256 → h < 256 → S g ≡ false → P g h ≡ true → h ≡ g) → Parted P S
+  unfolding block
+  blocks-parted S single = record {
+    sym = λ g h hg hh e. let k = both g h hg hh e in blocks h g hh hg ∙ ap₂ _&&_ (k .1) (k .0);
+    trans = λ g h k hg hh hk e d.
+        let a = both g h hg hh e in
+        let b = both h k hh hk d in
+        blocks g k hg hk ∙ ap₂ _&&_ (ok .trans g h k hg hh hk (a .0) (b .0)) (ok .trans k h g hk hh hg (b .1) (a .1));
+    single = single;
+  }
+    where
+      both : (g h : ℕ) → g < 256 → h < 256 → P g h ≡ true → (K g h ≡ true) × (K h g ≡ true)
+      both g h hg hh e = let k = sym (blocks g h hg hh) ∙ e in (and-fst (K g h) (K h g) k, and-snd (K g h) (K h g) k)
+
+  -- a set of states below n
+  pub blocks-owned : (S : Set) → ((g : ℕ) → g < 256 → S g ≡ true → g < n) → Owned P S
+  unfolding block
+  blocks-owned S inside g h e = let l = inside g h e in blocks g g h h ∙ ap₂ _&&_ (ok .loop g l) (ok .loop g l)

@@ -1,5 +1,5 @@
 -- Laws of marks that are set along chains.
-use Prim.Native.Nat.{ℕ, zero, suc, _+_, _-_, _≤_, _<_}
+use Prim.Native.Nat.{ℕ, zero, suc, _+_, _*_, _-_, _≤_, _<_}
 use mathlib.Core.Path.{_≡_, refl, sym, _∙_}
 use mathlib.Core.Bool.{Bool, true, false, not, _&&_, _||_, false≢true, and-true, and-assoc, or-false}
 use mathlib.Core.List.{List, [], _∷_, _++_, map}
@@ -7,7 +7,7 @@ use native.Mathlib.Omega.{arith}
 use native.Mathlib.Numerals.{add-one}
 use native.Mathlib.Nat.{le-refl}
 use borrow.Author.Tests.{eq-eqb, ne-eqb, not-true, not-false}
-use lib.ListN.{length, getD, set, length-set}
+use lib.ListN.{length, getD, set, length-set, replicate}
 use lib.Seq.{getD-set-same, getD-set-other}
 use lib.Dec.{eqb}
 use native.Mathlib.Decide.{ℕ-discrete}
@@ -18,9 +18,9 @@ use Rattle.lts.proofs.Below.{regroup, eqb-sym, all-cong}
 use Rattle.encoding.specs.Encoding.{chain, reached, member, onSomeChain, allReached, distinct, successor}
 use Rattle.encoding.specs.Checked.{Recorded, chainsFit}
 use Rattle.reader.specs.Marks.{fresh, marked}
-use Rattle.lts.proofs.Lists.{split}
+use Rattle.lts.proofs.Lists.{split, every-map}
 use Rattle.reader.proofs.Lowest.{lowest-all}
-use Rattle.encoding.proofs.Chains.{Below, reached-below, successors-below}
+use Rattle.encoding.proofs.Chains.{Below, reached-below, chain-all, transition-known, zeros-long}
 
 -- ## Marks along a list: what is left to be marked
 pub record Rest (v : ℕ) (m₀ l₀ m l : List ℕ) : Type 0 where
@@ -200,17 +200,26 @@ module _ (s : List ℕ) (h : Header) (g : Recorded s h) (m : List ℕ) (long : l
       at : (i : ℕ) → eqb (getD (marked 1 m (reached s h (h .states))) (i + 1) 0) 1 ≡ member (i + 1) (reached s h (h .states))
       at i = rw (marked-at 1 m _ (i + 1) inside, zeros (i + 1), or-false)
 
-module _ (s : List ℕ) (h : Header) (g : Recorded s h) (p : ℕ) (l : p < h .states) (m : List ℕ) (long : length m ≡ 16640) (old : (i : ℕ) → getD m i 0 ≤ p) where
+module _ (s : List ℕ) (h : Header) (g : Recorded s h) (p : ℕ) (l : p < h .states) (m : List ℕ) (room : 256 * (h .actions + 1) ≤ length m)
+    (old : (i : ℕ) → getD m i 0 ≤ p) where
   stamp-inside : Below (length m) (map (successor s h) (chain s h p))
-  stamp-inside = rw long (successors-below s h g p l)
+  unfolding successor
+  stamp-inside =
+      every-map (λ x. x < length m) (successor s h) (chain s h p)
+      (chain-all s h g (λ j. successor s h j < length m)
+      (λ j a b. let r = transition-known s h g j a b in omega (arith, g .sized .bounds .states, r .action, r .target, room)) p l)
 
   pub stamp-test : {b : Bool} → b ≡ fresh (p + 1) m (map (successor s h) (chain s h p)) → b ≡ distinct (map (successor s h) (chain s h p))
   stamp-test e = e ∙ fresh-distinct (p + 1) m _ stamp-inside (λ i f. let z = old i in omega (arith, z, f))
 
   pub stamp-next : {b : Bool} {m′ : List ℕ} → (b ≡ true → m′ ≡ marked (p + 1) m (map (successor s h) (chain s h p))) → not b ≡ false
-      → (length m′ ≡ 16640) × ((i : ℕ) → getD m′ i 0 ≤ p + 1)
+      → (256 * (h .actions + 1) ≤ length m′) × ((i : ℕ) → getD m′ i 0 ≤ p + 1)
   stamp-next {b} k t =
       let e = k (not-false b t) in (
-        rw (e, marked-length) long,
+        rw (e, marked-length) room,
         λ i. rw e (marked-bound (p + 1) m _ stamp-inside (λ y. let z = old y in omega (arith, z)) i),
       )
+
+-- an array of zeros has room for as much as its length
+pub zeros-room : (n k : ℕ) → k ≤ n → k ≤ length (replicate {A = ℕ} n 0)
+zeros-room n k l = rw (zeros-long n) l

@@ -1,5 +1,5 @@
 // Reads an encoding (document 01, "The sheet"; document 02, L1 and L2): its header, or the first rule that it breaks, with the record that is off its chain.
-ghost use Prim.Native.Nat.{ℕ, _+_, _<_, _≤_};
+ghost use Prim.Native.Nat.{ℕ, _+_, _*_, _<_, _≤_};
 ghost use mathlib.Core.Path.{_≡_};
 ghost use mathlib.Core.Bool.{true, false, not, _&&_};
 ghost use mathlib.Core.List.{List, map};
@@ -270,8 +270,8 @@ fn chain_refusal(s: &[u8], h: encoding::Header) -> lts::Refusal
 }
 
 // Stamps the actions and targets of state p's chain with p + 1; false where one is stamped so already.
-fn stamp_chain(s: &[u8], h: encoding::Header, p: usize, stamps: &mut [u16; 16640]) -> bool
-    requires { ⌜ (Recorded (now s) h) × (p < h .states) ⌝ }
+fn stamp_chain(s: &[u8], h: encoding::Header, p: usize, stamps: &mut [u16]) -> bool
+    requires { ⌜ (Recorded (now s) h) × (p < h .states) × (256 * (h .actions + 1) ≤ length (now stamps)) ⌝ }
     ensures { λ r. ⌜ r ≡ fresh (p + 1) (now (stamps .entry)) (map (successor (now (s .entry)) h) (chain (now (s .entry)) h p)) ⌝ }
     ensures { λ r. ⌜ (let l = map (successor (now (s .entry)) h) (chain (now (s .entry)) h p) in
         r ≡ true → now (stamps .exit) ≡ marked (p + 1) (now (stamps .entry)) l) ⌝ }
@@ -295,21 +295,49 @@ fn stamp_chain(s: &[u8], h: encoding::Header, p: usize, stamps: &mut [u16; 16640
     true
 }
 
-// Rule 6.
-fn successors_fit(s: &[u8], h: encoding::Header) -> bool
-    requires { ⌜ Recorded (now s) h ⌝ }
+// Rule 6, by stamps that are all 0.
+fn successors_stamped(s: &[u8], h: encoding::Header, stamps: &mut [u16]) -> bool
+    requires { ⌜ (Recorded (now s) h) × (256 * (h .actions + 1) ≤ length (now stamps)) × ((i : ℕ) → getD (now stamps) i 0 ≡ 0) ⌝ }
     ensures { λ r. ⌜ r ≡ successorsFit (now (s .entry)) h ⌝ }
 {
-    let mut stamps = [0u16; 16640];
     let n = h.states;
     let mut p = 0;
     while p < n {
-        if !stamp_chain(s, h, p, &mut stamps) {
+        if !stamp_chain(s, h, p, stamps) {
             return false;
         }
         p += 1;
     }
     true
+}
+
+// Rule 6, with at most 4 actions: a small array is cleared sooner.
+fn successors_few(s: &[u8], h: encoding::Header) -> bool
+    requires { ⌜ (Recorded (now s) h) × (h .actions ≤ 4) ⌝ }
+    ensures { λ r. ⌜ r ≡ successorsFit (now (s .entry)) h ⌝ }
+{
+    let mut stamps = [0u16; 1280];
+    successors_stamped(s, h, &mut stamps)
+}
+
+// Rule 6, with any actions.
+fn successors_many(s: &[u8], h: encoding::Header) -> bool
+    requires { ⌜ Recorded (now s) h ⌝ }
+    ensures { λ r. ⌜ r ≡ successorsFit (now (s .entry)) h ⌝ }
+{
+    let mut stamps = [0u16; 16640];
+    successors_stamped(s, h, &mut stamps)
+}
+
+// Rule 6.
+fn successors_fit(s: &[u8], h: encoding::Header) -> bool
+    requires { ⌜ Recorded (now s) h ⌝ }
+    ensures { λ r. ⌜ r ≡ successorsFit (now (s .entry)) h ⌝ }
+{
+    if h.actions <= 4 {
+        return successors_few(s, h);
+    }
+    successors_many(s, h)
 }
 
 // Reads an encoding: its header, or the first rule that it breaks.

@@ -1,156 +1,316 @@
--- The actions of one refinement step, on matrices.
-use Prim.Native.Nat.{ℕ, zero, suc, _+_, _*_, _≤_, _<_}
-use native.Mathlib.Nat.{le-refl, le-trans, le-step}
+-- The actions of one refinement step, on lists of sets.
+use Prim.Native.Nat.{ℕ, zero, suc, _+_, _-_, _^_, _≤_, _<_}
+use native.Mathlib.Nat.{le-refl, le-trans, le-step, eq-or-lt-of-le}
 use native.Mathlib.Numerals.{add-one}
 use native.Mathlib.Omega.{arith}
-use mathlib.Core.Path.{_≡_, refl, sym, _∙_, ap, ap₂, subst}
-use mathlib.Core.Bool.{Bool, true, false, cond, not, _&&_, and-true, and-false}
+use mathlib.Core.Path.{_≡_, refl, sym, _∙_, ap, ap₂, subst, fun-ext}
+use mathlib.Core.Bool.{Bool, true, false, cond, not, _&&_, _||_, and-true, and-false}
+use mathlib.Core.Logic.{_⊎_, inl, inr, ⊎-elim}
 use mathlib.Core.List.{List}
+use lib.Bits.{bitAnd}
+use lib.Count.{trailingZeros}
 use lib.Dec.{T}
-use lib.ListN.{drop}
+use lib.ListN.{length, getD}
 use Rattle.lts.specs.Bounded.{anyBelow}
 use Rattle.lts.specs.System.{Set, Rel, Lts, into}
 use Rattle.lts.specs.Refinement.{block, remove, refine, eachAction}
-use Rattle.lts.proofs.Bounded.{any-iff, test-ext}
 use Rattle.lts.proofs.Refine.{Blocks}
+use Rattle.lts.proofs.Below.{any-no, any-yes, any-shorter, clash, neither, lt-or-ge}
+use Rattle.lts.proofs.System.{into-to}
 use Rattle.rows.specs.Rows.{inRow, rowOf}
-use Rattle.relation.specs.Matrix.{relationOf, matrixOf}
-use Rattle.lts.proofs.Below.{any-no, any-cong}
-use Rattle.relation.proofs.Matrices.{relation-of, matrixOf-cong}
-use Rattle.rows.proofs.Rows.{inRow-of, part-in}
-use Rattle.transitions.specs.Filling.{actionSet}
-use Rattle.splitting.specs.Split.{splitRelated, splitBlocks, pruneRelated, refinedRelated}
-use Rattle.splitting.proofs.Laws.{split-cong, split-blocks-cong, refined-cong, refined-is, refined-blocks-is}
-use Rattle.refinement.specs.Engine.{Refined, actionsTo, without, HitRows}
+use Rattle.sets.specs.Sets.{setAt, setsOf}
+use Rattle.sets.specs.Parts.{Parted, Owned}
+use Rattle.sets.proofs.Lists.{set-in, sets-in, sets-cong, sets-ext}
+use Rattle.sets.proofs.Walks.{Rest, Stepped, rest-begin, rest-next, rest-end}
+use Rattle.transitions.specs.Table.{actionsOf, tableLts, Formed}
+use Rattle.transitions.proofs.Entries.{table-formed}
+use Rattle.splitting.specs.Split.{splitRelated, splitBlocks, pruneRelated, refinedRelated, Acted}
+use Rattle.splitting.proofs.Laws.{refined-cong, split-blocks-cong, refined-is, refined-blocks-is, SameSet, SameRel}
+use Rattle.refinement.specs.Engine.{Refined, actionsTo, acted, removedBy, hitsBy, Idle, Fixed, Owning, Untouched, Done}
 
--- a test that no number below k passes
-pub any-off : (k : ℕ) (f : Set) → false ≡ anyBelow k f → (q : ℕ) → q < k → f q ≡ false
-any-off k f e q h = test-ext (f q) false (λ t. subst T (sym e) (any-iff k f .1 (q, h, t))) (λ t. absurd t)
+-- ---- an action that changes nothing
 
-idle : (k p hit : Bool) → k ≡ k && not (p && true && false) && not (hit && false)
-idle k true true = sym (and-true (k && true) ∙ and-true k)
-idle k true false = sym (and-true (k && true) ∙ and-true k)
-idle k false true = sym (and-true (k && true) ∙ and-true k)
-idle k false false = sym (and-true (k && true) ∙ and-true k)
+idle-pair : (k p rg hit : Bool) → k ≡ (k && not (p && not rg && false)) && not (hit && false)
+idle-pair true true true true = refl
+idle-pair true true true false = refl
+idle-pair true true false true = refl
+idle-pair true true false false = refl
+idle-pair true false rg true = refl
+idle-pair true false rg false = refl
+idle-pair false p rg hit = refl
 
--- one action on matrices, from the sets of all actions
-module _ (n : ℕ) (removed members : List ℕ) (a : ℕ) (K P : Rel) (small : n ≤ 256) where
-  abbrev Rem : Set
-  Rem = actionSet removed a
+-- Rem is empty
+module _ (Rem Hits : Set) (K P : Rel) (none : (q : ℕ) → q < 256 → Rem q ≡ false) where
+  empty-related : (g h : ℕ) → g < 256 → h < 256 → K g h ≡ refinedRelated 256 Rem Hits K P g h
+  unfolding refinedRelated pruneRelated splitRelated
+  empty-related g h l m =
+      idle-pair (K g h) (P g h) (Rem g) (anyBelow 256 (λ x. splitBlocks Rem P g x && Hits x))
+      ∙ sym (ap (λ (b : Bool). (K g h && not (P g h && not (Rem g) && b)) && not (anyBelow 256 (λ x. splitBlocks Rem P g x && Hits x) && b)) (none h m))
 
-  abbrev Hits : Set
-  Hits = actionSet members a
+  empty-blocks : (g h : ℕ) → g < 256 → h < 256 → P g h ≡ splitBlocks Rem P g h
+  unfolding splitBlocks
+  empty-blocks g h l m = sym (ap₂ (λ (a b : Bool). P g h && cond a b (not b)) (none g l) (none h m) ∙ and-true (P g h))
 
-  module _ (rem : List ℕ) (is : rem ≡ rowOf 4 Rem) where
-    rem-in : (q : ℕ) → q < n → inRow rem q ≡ Rem q
-    rem-in q h = ap (λ (l : List ℕ). inRow l q) is ∙ inRow-of 4 Rem q (omega arith)
+-- no hit, and each state is alone in its block
+module _ (Rem Hits : Set) (K P : Rel) (shared : Set) (parts : Parted P shared) (lone : (q : ℕ) → q < 256 → shared q ≡ false) (miss : (q : ℕ) → q < 256 → Hits q ≡ false) where
+  alone : (g h : ℕ) → g < 256 → h < 256 → P g h ≡ true → Rem h ≡ Rem g
+  alone g h l m e = ap Rem (parts .single g h l m (lone g l) e)
 
-    pub blocks-split : (blocks : List ℕ) → blocks ≡ matrixOf n (splitBlocks (inRow rem) P) → blocks ≡ matrixOf n (splitBlocks Rem P)
-    blocks-split blocks e = e ∙ matrixOf-cong n _ _ (split-blocks-cong n rem-in (λ _ _ _ _. refl))
+  lone-blocks : (g h : ℕ) → g < 256 → h < 256 → P g h ≡ splitBlocks Rem P g h
+  unfolding splitBlocks
+  lone-blocks g h l m = go (P g h) (Rem g) (Rem h) (alone g h l m)
+    where
+      go : (p a b : Bool) → (p ≡ true → b ≡ a) → p ≡ p && cond a b (not b)
+      go false a b f = refl
+      go true true b f = sym (f refl)
+      go true false b f = sym (ap not (f refl))
 
-    -- Rem is pruned from the rows with a hit first, and then the blocks are split: the order does not matter, since a hit is not in Rem
-    module _ (free : (x : ℕ) → x < n → Hits x ≡ true → Rem x ≡ false) where
-      hit-split : (g : ℕ) → anyBelow n (λ x. P g x && Hits x) && not (Rem g) ≡ anyBelow n (λ x. splitBlocks Rem P g x && Hits x)
-      unfolding splitBlocks
-      hit-split g = go (Rem g)
+  lone-related : (g h : ℕ) → g < 256 → h < 256 → K g h ≡ refinedRelated 256 Rem Hits K P g h
+  unfolding refinedRelated pruneRelated splitRelated
+  lone-related g h l m =
+      go (K g h) (P g h) (Rem g) (Rem h) (alone g h l m)
+      ∙ ap (λ (b : Bool). (K g h && not (P g h && not (Rem g) && Rem h)) && not (b && Rem h)) (any-no 256 _ (λ x u. ap (λ (b : Bool). splitBlocks Rem P g x && b) (miss x u) ∙ and-false (splitBlocks Rem P g x)))
+    where
+      go : (k p a b : Bool) → (p ≡ true → b ≡ a) → k ≡ (k && not (p && not a && b)) && not (false && b)
+      go false p a b f = refl
+      go true false a b f = refl
+      go true true true b f = refl
+      go true true false true f = absurd (tf (f refl))
         where
-          never : (p r h : Bool) → (h ≡ true → r ≡ false) → (p && r) && h ≡ false
-          never p r false f = and-false (p && r)
-          never p r true f = ap (λ (b : Bool). (p && b) && true) (f refl) ∙ and-true (p && false) ∙ and-false p
+          tf : true ≡ false → ⊥
+          tf e = subst T e tt
+      go true true false false f = refl
 
-          stays : (p r h : Bool) → (h ≡ true → r ≡ false) → p && h ≡ (p && not r) && h
-          stays p r false f = and-false p ∙ sym (and-false (p && not r))
-          stays p r true f = sym (ap (λ (b : Bool). (p && not b) && true) (f refl) ∙ ap (λ (b : Bool). b && true) (and-true p))
+-- one that the engine skips
+pub idle-related : {Rem Hits shared : Set} {P : Rel} (K : Rel) → Idle Rem Hits shared → Parted P shared → SameRel 256 K (refinedRelated 256 Rem Hits K P)
+idle-related {Rem} {Hits} {shared} {P} K (inl none) parts = empty-related Rem Hits K P none
+idle-related {Rem} {Hits} {shared} {P} K (inr lone) parts = lone-related Rem Hits K P shared parts (lone .1) (lone .0)
 
-          go : (b : Bool) → anyBelow n (λ x. P g x && Hits x) && not b ≡ anyBelow n (λ x. (P g x && cond b (Rem x) (not (Rem x))) && Hits x)
-          go true = and-false (anyBelow n (λ x. P g x && Hits x)) ∙ any-no n _ (λ x h. never (P g x) (Rem x) (Hits x) (free x h))
-          go false = and-true (anyBelow n (λ x. P g x && Hits x)) ∙ any-cong n _ _ (λ x h. stays (P g x) (Rem x) (Hits x) (free x h))
+pub idle-blocks : {Rem Hits shared : Set} {P : Rel} → Idle Rem Hits shared → Parted P shared → SameRel 256 P (splitBlocks Rem P)
+idle-blocks {Rem} {Hits} {shared} {P} (inl none) parts = empty-blocks Rem Hits P P none
+idle-blocks {Rem} {Hits} {shared} {P} (inr lone) parts = lone-blocks Rem Hits P P shared parts (lone .1) (lone .0)
 
-      pub related-refined : (part hit pruned after : List ℕ) → part ≡ drop (4 * a) members → HitRows n (inRow rem) (inRow part) P (inRow hit)
-          → pruned ≡ matrixOf n (without (inRow hit) (inRow rem) K) → after ≡ matrixOf n (splitRelated (inRow rem) (relationOf n pruned) P)
-          → after ≡ matrixOf n (refinedRelated n Rem Hits K P)
-      unfolding refinedRelated pruneRelated splitRelated
-      related-refined part hit pruned after p rows r e = e ∙ matrixOf-cong n _ _ (λ g h hg hh.
-          split-cong n {P = P} {P′ = P} rem-in (relation-of n _ r) (λ _ _ _ _. refl) g h hg hh
-          ∙ ap₂ (λ (s t : Bool). (K g h && not (s && t)) && not (P g h && not (Rem g) && Rem h)) (hit-in g hg) (rem-in h hh)
-          ∙ swap (K g h) (not (anyBelow n (λ x. splitBlocks Rem P g x && Hits x) && Rem h)) (not (P g h && not (Rem g) && Rem h)))
-        where
-          swap : (k b c : Bool) → (k && b) && c ≡ (k && c) && b
-          swap false b c = refl
-          swap true true true = refl
-          swap true true false = refl
-          swap true false true = refl
-          swap true false false = refl
+-- ---- one action more, on lists that hold what j actions left
 
-          hit-in : (g : ℕ) → g < n → inRow hit g ≡ anyBelow n (λ x. splitBlocks Rem P g x && Hits x)
-          hit-in g h =
-              rows g h
-              ∙ ap₂ (λ (s t : Bool). s && not t) (any-cong n _ _ (λ x _. ap (λ (b : Bool). P g x && b) (ap (λ (l : List ℕ). inRow l x) p ∙ part-in members a x))) (rem-in g h)
-              ∙ hit-split g
-
-    -- where Rem is empty nothing changes
-    module _ (none : false ≡ anyBelow (4 * 64) (inRow rem)) where
-      out : (q : ℕ) → q < n → Rem q ≡ false
-      out q h = sym (rem-in q h) ∙ any-off (4 * 64) (inRow rem) none q (omega arith)
-
-      pub blocks-idle : matrixOf n P ≡ matrixOf n (splitBlocks Rem P)
-      unfolding splitBlocks
-      blocks-idle = matrixOf-cong n _ _ (λ g h l m. rw (out g l, out h m) (sym (and-true (P g h))))
-
-      pub related-idle : matrixOf n K ≡ matrixOf n (refinedRelated n Rem Hits K P)
-      unfolding refinedRelated pruneRelated splitRelated
-      related-idle = matrixOf-cong n _ _ (λ g h l m. rw (out g l, out h m) (idle (K g h) (P g h) (anyBelow n (λ x. splitBlocks Rem P g x && Hits x))))
-
--- one action more, on matrices that hold what j actions left
-pub acted-next : (n : ℕ) (removed members : List ℕ) (j : ℕ) (r : Refined) (related blocks : List ℕ)
-    → related ≡ matrixOf n (actionsTo n removed members j r .related) → blocks ≡ matrixOf n (actionsTo n removed members j r .blocks)
-    → (matrixOf n (refinedRelated n (actionSet removed (j + 1)) (actionSet members (j + 1)) (relationOf n related) (relationOf n blocks)) ≡ matrixOf n (actionsTo n removed members (j + 1) r .related))
-    × (matrixOf n (splitBlocks (actionSet removed (j + 1)) (relationOf n blocks)) ≡ matrixOf n (actionsTo n removed members (j + 1) r .blocks))
+pub acted-next : (Rem Hits : ℕ → Set) (j : ℕ) (r : Refined) {related blocks related′ blocks′ touched : List ℕ}
+    → related ≡ setsOf 256 (actionsTo Rem Hits j r .related) → blocks ≡ setsOf 256 (actionsTo Rem Hits j r .blocks)
+    → Acted (Rem (suc j)) (Hits (suc j)) related blocks related′ blocks′ touched
+    → (related′ ≡ setsOf 256 (actionsTo Rem Hits (suc j) r .related)) × (blocks′ ≡ setsOf 256 (actionsTo Rem Hits (suc j) r .blocks))
 unfolding actionsTo
-acted-next n removed members j r related blocks e d =
-    rw add-one (
-      matrixOf-cong n _ _ (refined-cong n (λ _ _. refl) (λ _ _. refl) (relation-of n _ e) (relation-of n _ d)),
-      matrixOf-cong n _ _ (split-blocks-cong n (λ _ _. refl) (relation-of n _ d)),
-    )
+acted-next Rem Hits j r e d act = (
+  act .related-is ∙ sets-cong 256 _ _ (refined-cong 256 (λ _ _. refl) (λ _ _. refl) (sets-in 256 _ e) (sets-in 256 _ d)),
+  act .blocks-is ∙ sets-cong 256 _ _ (split-blocks-cong 256 (λ _ _. refl) (sets-in 256 _ d)),
+)
 
--- The actions 1 to j by rows are those of the refinement rule, where K has blocks after each, a hit is never in Rem, and the sets of all
--- actions are those of the rule below n.
-module _ (L : Lts) (B Y N : Set) (K₀ : Rel) (removed members : List ℕ) (r : Refined)
+-- an action that is skipped
+pub acted-skip : (Rem Hits : ℕ → Set) (j : ℕ) (r : Refined) {shared : Set} {related blocks : List ℕ}
+    → related ≡ setsOf 256 (actionsTo Rem Hits j r .related) → blocks ≡ setsOf 256 (actionsTo Rem Hits j r .blocks)
+    → Idle (Rem (suc j)) (Hits (suc j)) shared → Parted (setAt blocks) shared
+    → (related ≡ setsOf 256 (actionsTo Rem Hits (suc j) r .related)) × (blocks ≡ setsOf 256 (actionsTo Rem Hits (suc j) r .blocks))
+unfolding actionsTo
+acted-skip Rem Hits j r {related = related} {blocks} e d idle parts = (
+  e ∙ sets-cong 256 _ _ (λ g h l m. sym (sets-in 256 _ e g h l m) ∙ idle-related (setAt related) idle parts g h l m
+      ∙ refined-cong 256 (λ _ _. refl) (λ _ _. refl) (sets-in 256 _ e) (sets-in 256 _ d) g h l m),
+  d ∙ sets-cong 256 _ _ (λ g h l m. sym (sets-in 256 _ d g h l m) ∙ idle-blocks idle parts g h l m ∙ split-blocks-cong 256 (λ _ _. refl) (sets-in 256 _ d) g h l m),
+)
+
+-- the actions from i up to j that are skipped
+pub acted-skips : (Rem Hits : ℕ → Set) (i j : ℕ) (r : Refined) {shared : Set} {related blocks : List ℕ} → i ≤ j
+    → related ≡ setsOf 256 (actionsTo Rem Hits i r .related) → blocks ≡ setsOf 256 (actionsTo Rem Hits i r .blocks)
+    → ((x : ℕ) → i ≤ x → x < j → Idle (Rem (suc x)) (Hits (suc x)) shared) → Parted (setAt blocks) shared
+    → (related ≡ setsOf 256 (actionsTo Rem Hits j r .related)) × (blocks ≡ setsOf 256 (actionsTo Rem Hits j r .blocks))
+acted-skips Rem Hits i zero r {related = related} {blocks} l e d idle parts =
+    let same : i ≡ 0 = omega (arith, l) in
+    (e ∙ ap (λ (x : ℕ). setsOf 256 (actionsTo Rem Hits x r .related)) same, d ∙ ap (λ (x : ℕ). setsOf 256 (actionsTo Rem Hits x r .blocks)) same)
+acted-skips Rem Hits i (suc j) r {shared} {related} {blocks} l e d idle parts =
+    ⊎-elim
+    (λ (same : i ≡ suc j). (e ∙ ap (λ (x : ℕ). setsOf 256 (actionsTo Rem Hits x r .related)) same, d ∙ ap (λ (x : ℕ). setsOf 256 (actionsTo Rem Hits x r .blocks)) same))
+    (λ (m : i < suc j).
+    let before = acted-skips Rem Hits i j r {shared = shared} {related = related} {blocks = blocks} (omega (arith, m)) e d (λ x u v. idle x u (omega (arith, v))) parts in
+    acted-skip Rem Hits j r (before .0) (before .1) (idle j (omega (arith, m)) (le-refl (suc j))) parts)
+    (eq-or-lt-of-le l)
+
+-- what one action makes of lists whose sets agree
+pub acted-cong : {Rem Rem′ Hits Hits′ : Set} {related blocks related′ blocks′ touched : List ℕ} → SameSet 256 Rem Rem′ → SameSet 256 Hits Hits′
+    → Acted Rem Hits related blocks related′ blocks′ touched → Acted Rem′ Hits′ related blocks related′ blocks′ touched
+acted-cong {related = related} {blocks} r h act = record {
+  related-is = act .related-is ∙ sets-cong 256 _ _ (refined-cong 256 {K = setAt related} {K′ = setAt related} {P = setAt blocks} {P′ = setAt blocks} r h (λ _ _ _ _. refl) (λ _ _ _ _. refl));
+  blocks-is = act .blocks-is ∙ sets-cong 256 _ _ (split-blocks-cong 256 {P = setAt blocks} {P′ = setAt blocks} r (λ _ _ _ _. refl));
+  related-same = act .related-same;
+  blocks-same = act .blocks-same;
+}
+
+-- ---- the actions by rows are those of the refinement rule
+
+-- hits are sought among the numbers below 256 or below n, where blocks lie below n
+fewer-hits : (n : ℕ) (Rem Hits : Set) (K P : Rel) → n ≤ 256 → ((g h : ℕ) → n ≤ h → P g h ≡ false) → (g h : ℕ) → refinedRelated 256 Rem Hits K P g h ≡ refinedRelated n Rem Hits K P g h
+unfolding refinedRelated pruneRelated splitBlocks
+fewer-hits n Rem Hits K P small off g h =
+    ap (λ (b : Bool). splitRelated Rem K P g h && not (b && Rem h))
+    (any-shorter n 256 _ small (λ x l m. ap (λ (b : Bool). (b && cond (Rem g) (Rem x) (not (Rem x))) && Hits x) (off g x l)))
+
+-- K has blocks after each action, and a hit is never in Rem
+module _ (L : Lts) (small : L .states ≤ 256) (B Y N : Set) (K₀ : Rel)
     (steady : (j : ℕ) → Blocks (λ g. g < L .states) (λ g h. T (eachAction j (refine L B Y N) K₀ g h)))
-    (free : (a x : ℕ) → T (into L a B x) → T (remove L a Y N x) → ⊥)
-    (rem : (a q : ℕ) → a ≤ L .actions → q < L .states → actionSet removed a q ≡ remove L a Y N q)
-    (hits : (a q : ℕ) → a ≤ L .actions → q < L .states → actionSet members a q ≡ into L a B q)
-    (related : (p q : ℕ) → p < L .states → q < L .states → r .related p q ≡ K₀ p q)
-    (blocks : (p q : ℕ) → p < L .states → q < L .states → r .blocks p q ≡ block K₀ p q) where
-  abbrev n : ℕ
-  n = L .states
-
+    (free : (a x : ℕ) → T (into L a B x) → T (remove L a Y N x) → ⊥) where
   abbrev done : ℕ → Rel
   done j = eachAction j (refine L B Y N) K₀
 
   abbrev rows : ℕ → Refined
-  rows j = actionsTo n removed members j r
+  rows j = actionsTo (λ a. remove L a Y N) (λ a. into L a B) j (record { related = K₀; blocks = block K₀ })
+
+  -- a block lies below n
+  off : (j g h : ℕ) → L .states ≤ h → block (done j) g h ≡ false
+  unfolding block
+  off j g h l = go (done j g h) (λ t. steady j .target {g = g} {h = h} t)
+    where
+      go : (b : Bool) → (T b → h < L .states) → b && done j h g ≡ false
+      go false f = refl
+      go true f = absurd (omega (arith, f tt, l))
 
   record Same (j : ℕ) : Type 0 where
-    related-same : (p q : ℕ) → p < n → q < n → rows j .related p q ≡ done j p q
-    blocks-same : (p q : ℕ) → p < n → q < n → rows j .blocks p q ≡ block (done j) p q
+    related-same : (p q : ℕ) → rows j .related p q ≡ done j p q
+    blocks-same : (p q : ℕ) → rows j .blocks p q ≡ block (done j) p q
 
-  same : (j : ℕ) → j ≤ L .actions → Same j
+  same : (j : ℕ) → Same j
   unfolding actionsTo eachAction
-  same zero l = record { related-same = related; blocks-same = blocks }
-  same (suc j) l =
-      let ih = same j (le-trans (le-step (le-refl j)) l) in
+  same zero = record { related-same = λ p q. refl; blocks-same = λ p q. refl }
+  same (suc j) =
+      let ih = same j in
+      let K : rows j .related ≡ done j = fun-ext (λ p. fun-ext (λ q. ih .related-same p q)) in
+      let P : rows j .blocks ≡ block (done j) = fun-ext (λ p. fun-ext (λ q. ih .blocks-same p q)) in
       record {
-        related-same = λ p q u v.
-            refined-cong n (λ x. rem (suc j) x l) (λ x. hits (suc j) x l) (ih .related-same) (ih .blocks-same) p q u v
+        related-same = λ p q.
+            ap₂ (λ (x y : Rel). refinedRelated 256 (remove L (suc j) Y N) (into L (suc j) B) x y p q) K P
+            ∙ fewer-hits (L .states) (remove L (suc j) Y N) (into L (suc j) B) (done j) (block (done j)) small (off j) p q
             ∙ refined-is L (done j) (steady j) B Y N (suc j) p q;
-        blocks-same = λ p q u v.
-            split-blocks-cong n (λ x. rem (suc j) x l) (ih .blocks-same) p q u v
+        blocks-same = λ p q.
+            ap (λ (x : Rel). splitBlocks (remove L (suc j) Y N) x p q) P
             ∙ refined-blocks-is L (done j) (steady j) B Y N (suc j) (free (suc j)) p q;
       }
 
-  pub acted-related : matrixOf n (rows (L .actions) .related) ≡ matrixOf n (done (L .actions))
-  acted-related = matrixOf-cong n _ _ (same (L .actions) (le-refl (L .actions)) .related-same)
+  pub acted-related : (j p q : ℕ) → rows j .related p q ≡ done j p q
+  acted-related j = same j .related-same
 
-  pub acted-blocks : matrixOf n (rows (L .actions) .blocks) ≡ matrixOf n (block (done (L .actions)))
-  acted-blocks = matrixOf-cong n _ _ (same (L .actions) (le-refl (L .actions)) .blocks-same)
+  pub acted-blocks : (j p q : ℕ) → rows j .blocks p q ≡ block (done j) p q
+  acted-blocks j = same j .blocks-same
+
+-- an action whose Rem is empty, on lists
+pub idle-acted : (Rem Hits : Set) (related blocks touched : List ℕ) → length related ≡ 1024 → length blocks ≡ 1024 → ((j : ℕ) → getD related j 0 < 2 ^ 64)
+    → ((j : ℕ) → getD blocks j 0 < 2 ^ 64) → ((q : ℕ) → q < 256 → Rem q ≡ false) → Acted Rem Hits related blocks related blocks touched
+idle-acted Rem Hits related blocks touched long length-blocks words words-blocks none = record {
+  related-is = sets-ext 256 related long words ∙ sets-cong 256 _ _ (empty-related Rem Hits (setAt related) (setAt blocks) none);
+  blocks-is = sets-ext 256 blocks length-blocks words-blocks ∙ sets-cong 256 _ _ (empty-blocks Rem Hits (setAt related) (setAt blocks) none);
+  related-same = λ _ _ _ _ _. refl;
+  blocks-same = λ _ _ _ _ _. refl;
+}
+
+-- what a negated test says
+pub not-taken : (b : Bool) → not b ≡ true → b ≡ false
+not-taken false e = refl
+not-taken true e = sym e
+
+-- no number passes a test
+pub any-off : (f : Set) → anyBelow 256 f ≡ false → (q : ℕ) → q < 256 → f q ≡ false
+any-off f e q h = go (f q) refl
+  where
+    go : (x : Bool) → f q ≡ x → x ≡ false
+    go false r = refl
+    go true r = absurd (clash (sym (any-yes 256 f q h r)) e)
+
+-- a hit is a state of the table
+pub hits-owned : {t : List ℕ} → Formed t → (a : ℕ) (B : Set) (blocks : List ℕ) {hits : List ℕ} → Owning t blocks → hits ≡ rowOf 4 (into (tableLts t) a B) → Owned (setAt blocks) (inRow hits)
+unfolding tableLts
+hits-owned {t} ok a B blocks own is g h e =
+    let s = into-to (tableLts t) a B g (subst T (sym (sym (set-in _ is g h) ∙ e)) tt) in
+    own g (table-formed t ok .source g a (s .0) (s .1))
+
+-- each state stays in its own block
+pub owning-split : {t : List ℕ} (blocks : List ℕ) {blocks′ : List ℕ} (Rem : Set) → Formed t → Owning t blocks → blocks′ ≡ setsOf 256 (splitBlocks Rem (setAt blocks)) → Owning t blocks′
+unfolding splitBlocks
+owning-split blocks Rem ok own is g h =
+    let u : g < 256 = omega (arith, h, ok .states) in
+    sets-in 256 _ is g g u u ∙ ap₂ _&&_ (own g h) (stays (Rem g))
+  where
+    stays : (r : Bool) → cond r r (not r) ≡ true
+    stays true = refl
+    stays false = refl
+
+-- ---- what a walk over the actions has done
+
+-- the actions 1 to i are done, and `left` has the other bits of the word of actions; a row outside `touched` is as it was
+pub record Going (t : List ℕ) (Rem Hits : ℕ → Set) (actions : ℕ) (shared : Set) (related blocks : List ℕ) (i left : ℕ) (related′ blocks′ touched : List ℕ) : Type 0 where
+  pub rest : Rest actions i left
+  pub most : i ≤ actionsOf t
+  pub related-is : related′ ≡ setsOf 256 (acted Rem Hits i related blocks .related)
+  pub blocks-is : blocks′ ≡ setsOf 256 (acted Rem Hits i related blocks .blocks)
+  pub untouched : Untouched related blocks related′ blocks′ touched
+  pub parts : Parted (setAt blocks′) shared
+  pub own : Owning t blocks′
+
+module _ {t places rows : List ℕ} {actions : ℕ} {B Y N shared : Set} {whole : Bool} (fixed : Fixed t places rows actions B Y N shared whole) (related blocks : List ℕ) where
+  abbrev Rem : ℕ → Set
+  Rem = removedBy t Y N
+
+  abbrev Hits : ℕ → Set
+  Hits = hitsBy t B
+
+  pub going-begin : length related ≡ 1024 → length blocks ≡ 1024 → ((j : ℕ) → getD related j 0 < 2 ^ 64) → ((j : ℕ) → getD blocks j 0 < 2 ^ 64)
+      → Parted (setAt blocks) shared → Owning t blocks → (touched : List ℕ) → Going t Rem Hits actions shared related blocks 0 actions related blocks touched
+  unfolding actionsTo
+  going-begin long length-blocks words words-blocks parts own touched = record {
+    rest = rest-begin actions (fixed .small);
+    most = omega arith;
+    related-is = sets-ext 256 related long words;
+    blocks-is = sets-ext 256 blocks length-blocks words-blocks;
+    untouched = record { related-same = λ _ _ _ _ _. refl; blocks-same = λ _ _ _ _ _. refl };
+    parts = parts;
+    own = own;
+  }
+
+  module _ {i left : ℕ} {related′ blocks′ touched : List ℕ} (now : Going t Rem Hits actions shared related blocks i left related′ blocks′ touched) where
+    -- the next action
+    module _ (some : left ≡ 0 → ⊥) where
+      abbrev j : ℕ
+      j = trailingZeros 64 left
+
+      next : Stepped actions i left j
+      next = rest-next actions i left (now .rest) some
+
+      pub next-most : j + 1 ≤ actionsOf t
+      next-most = ⊎-elim (λ (l : j < actionsOf t). omega (arith, l)) (λ (l : actionsOf t ≤ j). absurd (clash (next .member) (fixed .no-more j l (next .below)))) (lt-or-ge j (actionsOf t))
+
+      pub next-low : j < 64
+      next-low = next .below
+
+      skipped : (related′ ≡ setsOf 256 (acted Rem Hits j related blocks .related)) × (blocks′ ≡ setsOf 256 (acted Rem Hits j related blocks .blocks))
+      skipped = acted-skips Rem Hits i j _ {shared = shared} (next .above) (now .related-is) (now .blocks-is)
+          (λ x l h. fixed .idle x (omega (arith, h, next-most)) (next .none x l h)) (now .parts)
+
+      pub going-next : {related″ blocks″ changed touched′ : List ℕ} → Acted (Rem (j + 1)) (Hits (j + 1)) related′ blocks′ related″ blocks″ changed → Parted (setAt blocks″) shared
+          → touched′ ≡ rowOf 4 (λ q. inRow touched q || inRow changed q) → Going t Rem Hits actions shared related blocks (j + 1) (bitAnd left (left - 1)) related″ blocks″ touched′
+      going-next {related″} {blocks″} {changed} {touched′} act parts join = record {
+        rest = next .rest;
+        most = next-most;
+        related-is = more .0;
+        blocks-is = more .1;
+        untouched = record {
+          related-same = λ g h u v e. let o = out g u e in act .related-same g h u v (o .1) ∙ now .untouched .related-same g h u v (o .0);
+          blocks-same = λ g h u v e. let o = out g u e in act .blocks-same g h u v (o .1) ∙ now .untouched .blocks-same g h u v (o .0);
+        };
+        parts = parts;
+        own = owning-split blocks′ (Rem (j + 1)) (fixed .index .formed) (now .own) (act .blocks-is);
+      }
+        where
+          out : (g : ℕ) → g < 256 → inRow touched′ g ≡ false → (inRow touched g ≡ false) × (inRow changed g ≡ false)
+          out g u e = neither (inRow touched g) (inRow changed g) (sym (set-in _ join g u) ∙ e)
+
+          more : (related″ ≡ setsOf 256 (acted Rem Hits (j + 1) related blocks .related)) × (blocks″ ≡ setsOf 256 (acted Rem Hits (j + 1) related blocks .blocks))
+          more = rw add-one (acted-next Rem Hits j _ (skipped .0) (skipped .1) (rw add-one at act))
+
+    -- the end
+    pub going-end : left ≡ 0 → Done t B Y N related blocks related′ blocks′ touched
+    going-end none =
+        let all = acted-skips Rem Hits i (actionsOf t) _ {shared = shared} (now .most) (now .related-is) (now .blocks-is)
+        (λ x l h. fixed .idle x h (rest-end actions i left (now .rest) none x l (omega (arith, h, fixed .index .formed .labels)))) (now .parts) in
+        record { related-is = all .0; blocks-is = all .1; untouched = now .untouched }

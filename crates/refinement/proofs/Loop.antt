@@ -4,49 +4,39 @@ use native.Mathlib.Nat.{mul-le-mul}
 use native.Mathlib.Numerals.{add-one}
 use native.Mathlib.Omega.{arith}
 use mathlib.Core.Path.{_≡_, refl, sym, _∙_, ap, ap₂, subst}
-use mathlib.Core.Bool.{Bool, true, false, _&&_, true≢false}
+use mathlib.Core.Bool.{Bool, true, false, _&&_}
+use mathlib.Core.Logic.{⊎-elim}
 use mathlib.Core.List.{List}
-use lib.Dec.{T}
-use lib.ListN.{length, getD, replicate}
-use Rattle.lts.specs.Bounded.{passing}
+use lib.Dec.{T, ltb}
+use lib.ListN.{length, getD}
+use borrow.Author.Tests.{lt-ltb, ltb-true}
+use Rattle.lts.specs.Bounded.{anyBelow, passing}
 use Rattle.lts.specs.System.{Rel, Lts, WellFormed, anyState}
 use Rattle.lts.specs.Refinement as Refinement
 use Rattle.lts.specs.Refinement.{Relations, Run, initial, block, eachAction, stepOf, chosen, coarsest}
-use Rattle.lts.proofs.Bounded.{test-ext}
+use Rattle.lts.proofs.Below.{T-true, clash, lt-or-ge}
 use Rattle.lts.proofs.System.{Preorder}
 use Rattle.lts.proofs.Step.{block-iff}
-use Rattle.lts.proofs.Run.{initial-inv}
-use Rattle.rows.specs.Rows.{inRow, rowOf, statesBelow}
-use Rattle.relation.specs.Matrix.{relationOf, matrixOf, Matrix}
-use Rattle.lts.proofs.Below.{T-true, length-listBelow}
-use Rattle.rows.proofs.Rows.{inRow-ones}
-use Rattle.relation.proofs.Matrices.{relation-of, formed-of, matrixOf-cong}
+use Rattle.lts.proofs.Run.{coarsest-is}
+use Rattle.rows.specs.Rows.{inRow, rowOf}
+use Rattle.relation.specs.Matrix.{relationOf, matrixOf}
+use Rattle.relation.proofs.Matrices.{matrixOf-cong}
+use Rattle.sets.specs.Sets.{setAt, setsOf}
+use Rattle.sets.specs.Parts.{Parted, Owned}
+use Rattle.sets.proofs.Lists.{set-in, sets-in, sets-cong, sets-long}
 use Rattle.transitions.specs.Table.{statesOf, tableLts, Formed}
 use Rattle.transitions.proofs.Entries.{table-formed}
-use Rattle.partition.specs.Pending.{Classes}
+use Rattle.adjacency.specs.Adjacency.{Index}
 use Rattle.partition.proofs.Laws as partition
-use Rattle.splitting.specs.Split.{Parted}
-use Rattle.refinement.specs.Engine.{heldBy, relationsOf, Steady, State, Start}
-use Rattle.refinement.proofs.Laws.{held-at, block-held, state-begin, state-steady, state-next, state-end, state-below, chosen-below}
+use Rattle.refinement.specs.Engine.{heldBy, relationsOf, Steady, Before, Stepping, Made, State, Start}
+use Rattle.refinement.proofs.Laws.{held-inside, state-begin, state-steady, state-next, state-end, state-below, chosen-below}
 use Rattle.refinement.proofs.Pending.{pendingAt}
 
--- where the loop stands at its test, with n states: what was reached, the pending representatives, their number, and the states that share a block
-pub record At (t : List ℕ) (n : ℕ) (start schedule : List ℕ) (steps : ℕ) (related viewed blocks shared pending : List ℕ) (c : ℕ) : Type 0 where
+-- where the loop stands at its test: what was reached, the pending representatives, and the states that share a block
+pub record At (t start schedule : List ℕ) (steps : ℕ) (related viewed blocks shared pending : List ℕ) : Type 0 where
   pub state : State (tableLts t) (relationOf (statesOf t) start) schedule steps related viewed blocks
-  pub pending-is : pending ≡ rowOf 4 (statesBelow n (pendingAt n related viewed blocks))
-  pub count : c ≡ length (passing n (inRow pending))
-  pub parts : Parted n (relationOf n blocks) (inRow shared)
-  pub long : length shared ≡ 4
-
-pub pending-long : {t : List ℕ} {n : ℕ} {start schedule : List ℕ} {steps : ℕ} {related viewed blocks shared pending : List ℕ} {c : ℕ}
-    → At t n start schedule steps related viewed blocks shared pending c → length pending ≡ 4
-pending-long at = ap length (at .pending-is) ∙ length-listBelow 4 _
-
--- the same, of an equal number of states
-pub at-same : {t : List ℕ} {n m : ℕ} {start schedule : List ℕ} {steps : ℕ} {related viewed blocks shared pending : List ℕ} {c : ℕ} → n ≡ m
-    → At t n start schedule steps related viewed blocks shared pending c → At t m start schedule steps related viewed blocks shared pending c
-at-same {t} {start = start} {schedule} {steps} {related} {viewed} {blocks} {shared} {pending} {c} e =
-    subst (λ (n : ℕ). At t n start schedule steps related viewed blocks shared pending c) e
+  pub pending-is : pending ≡ rowOf 4 (pendingAt related viewed blocks)
+  pub parts : Parted (setAt blocks) (inRow shared)
 
 -- a step fewer than n * n is a number
 pub small-steps : (n steps : ℕ) → n ≤ 256 → steps < n * n → steps < 65536
@@ -69,149 +59,186 @@ module _ {t start : List ℕ} (ok : Formed t) (st : Start (statesOf t) start) wh
   unfolding tableLts
   pre = record { loop = st .loop; chain = st .chain }
 
-  -- the blocks of K at the beginning are classes
-  module _ (related : List ℕ) (is : related ≡ matrixOf n (initial L from .related)) where
-    abbrev K : Rel
-    K = initial L from .related
-
-    at : (p q : ℕ) → p < n → q < n → block (relationOf n related) p q ≡ block K p q
-    unfolding block
-    at p q l u = ap₂ _&&_ (relation-of n _ is p q l u) (relation-of n _ is q p u l)
-
-    moved : (p g h : ℕ) → T (block K p g) → T (block K p h) → T (block K g h)
-    moved p g h a b =
-        let 𝓑 = initial-inv L wf from pre .blocks in
-        let u = block-iff K p g .0 a in
-        let v = block-iff K p h .0 b in
-        block-iff K g h .1 (𝓑 .shiftL (v .0) (u .0) (u .1), 𝓑 .shiftR (v .1) (u .0) (u .1))
-
-    turned : (p g : ℕ) → T (block K p g) → T (block K g p)
-    turned p g a = let u = block-iff K p g .0 a in block-iff K g p .1 (u .1, u .0)
-
-    pub classes-first : Classes n (relationOf n related)
-    unfolding tableLts
-    classes-first = record {
-      own = λ p h. at p p h h ∙ T-true (block K p p) (block-iff K p p .1 (let k = initial-inv L wf from pre .blocks .loop h in (k, k)));
-      same = λ p g h hp hg hh e.
-          let a : T (block K p g) = subst T (sym e ∙ at p g hp hg) tt in
-          at p h hp hh ∙ test-ext (block K p h) (block K g h) (moved p g h a) (moved g p h (turned p g a)) ∙ sym (at g h hg hh);
-    }
-
-  pub loop-begin : (schedule related viewed blocks : List ℕ) → related ≡ matrixOf n (initial L from .related) → viewed ≡ matrixOf n (λ p q. true)
-      → blocks ≡ matrixOf n (block (relationOf n related)) → State L from schedule 0 related viewed blocks
+  few : L .states ≤ 256
   unfolding tableLts
-  loop-begin schedule related viewed blocks e d b = state-begin L wf from pre schedule related viewed blocks e d b
+  few = ok .states
+
+  -- the blocks of the relation that a list holds
+  blocks-of : (K : Rel) {related : List ℕ} → related ≡ setsOf 256 K → setsOf 256 (block (setAt related)) ≡ setsOf 256 (block K)
+  unfolding block
+  blocks-of K e = sets-cong 256 _ _ (λ p q h l. ap₂ _&&_ (sets-in 256 K e p q h l) (sets-in 256 K e q p l h))
+
+  pub loop-begin : (schedule related viewed blocks : List ℕ) → related ≡ setsOf 256 (initial L from .related) → viewed ≡ setsOf 256 (initial L from .viewed)
+      → blocks ≡ setsOf 256 (block (setAt related)) → State L from schedule 0 related viewed blocks
+  loop-begin schedule related viewed blocks e d b = state-begin L wf from pre schedule few related viewed blocks e d (b ∙ blocks-of _ e)
+
+  -- ---- K and the blocks at the end, as matrices
+
+  -- they have no pair outside the states
+  untrue : (x : Bool) → (T x → ⊥) → x ≡ false
+  untrue false f = refl
+  untrue true f = absurd (f tt)
+
+  final-below : (schedule : List ℕ) (p q : ℕ) → T (coarsest L from schedule .final .related p q) → q < n
+  unfolding tableLts
+  final-below schedule p q e = coarsest-is L wf from pre schedule .simulates .states e .1
+
+  pub related-clear : (schedule list : List ℕ) → list ≡ setsOf 256 (coarsest L from schedule .final .related) → (p q : ℕ) → p < n → n ≤ q → q < 256 → setAt list p q ≡ false
+  related-clear schedule list is p q h l u = sets-in 256 _ is p q (omega (arith, h, ok .states)) u ∙ untrue _ (λ e. omega (arith, final-below schedule p q e, l))
+
+  pub blocks-clear : (schedule list : List ℕ) → list ≡ setsOf 256 (block (coarsest L from schedule .final .related)) → (p q : ℕ) → p < n → n ≤ q → q < 256 → setAt list p q ≡ false
+  blocks-clear schedule list is p q h l u =
+      sets-in 256 _ is p q (omega (arith, h, ok .states)) u ∙ untrue _ (λ e. omega (arith, final-below schedule p q (block-iff (coarsest L from schedule .final .related) p q .0 e .0), l))
+
+  pub matrix-of-list : (R : Rel) (list : List ℕ) {grid : List ℕ} {m : ℕ} → m ≡ n → list ≡ setsOf 256 R → grid ≡ matrixOf m (setAt list) → grid ≡ matrixOf n R
+  matrix-of-list R list same is e =
+      e ∙ ap (λ (m : ℕ). matrixOf m (setAt list)) same
+      ∙ matrixOf-cong n _ _ (λ p q h l. sets-in 256 R is p q (omega (arith, h, ok .states)) (omega (arith, l, ok .states)))
 
   module _ {schedule : List ℕ} {steps : ℕ} {related viewed blocks : List ℕ} (state : State L from schedule steps related viewed blocks) where
     abbrev s : Relations
     s = relationsOf n related viewed
 
-    pub related-formed : Matrix n related
-    unfolding tableLts
-    related-formed = formed-of n _ (state .related-is)
+    pub long-related : length related ≡ 1024
+    long-related = sets-long 256 _ (state .related-is)
 
-    pub viewed-formed : Matrix n viewed
-    unfolding tableLts
-    viewed-formed = formed-of n _ (state .viewed-is)
+    pub long-viewed : length viewed ≡ 1024
+    long-viewed = sets-long 256 _ (state .viewed-is)
 
-    pub blocks-formed : Matrix n blocks
-    unfolding tableLts
-    blocks-formed = formed-of n _ (state .blocks-is)
-
-    pub blocks-of : blocks ≡ matrixOf n (block (relationOf n related))
-    unfolding tableLts
-    blocks-of = state .blocks-is ∙ sym (matrixOf-cong n (block (relationOf n related)) (block (heldBy n related)) (block-held n related))
+    pub long-blocks : length blocks ≡ 1024
+    long-blocks = sets-long 256 _ (state .blocks-is)
 
     pub steady : (b : ℕ) → Steady L b s
     unfolding tableLts
-    steady = state-steady L wf from pre schedule steps related viewed blocks state
+    steady = state-steady L wf from pre schedule few steps related viewed blocks state
 
-    same-related : (p q : ℕ) → p < n → q < n → relationOf n related p q ≡ s .related p q
+    same-related : (p q : ℕ) → p < 256 → q < 256 → setAt related p q ≡ s .related p q
+    unfolding relationsOf tableLts
+    same-related = sets-in 256 _ (state .related-is)
+
+    same-viewed : (p q : ℕ) → p < 256 → q < 256 → setAt viewed p q ≡ s .viewed p q
+    unfolding relationsOf tableLts
+    same-viewed = sets-in 256 _ (state .viewed-is)
+
+    same-blocks : (p q : ℕ) → p < 256 → q < 256 → setAt blocks p q ≡ block (s .related) p q
+    unfolding relationsOf tableLts
+    same-blocks = sets-in 256 _ (state .blocks-is)
+
+    inside : (p q : ℕ) → T (s .related p q) → (p < n) × (q < n)
     unfolding relationsOf
-    same-related p q l u = sym (held-at n related p q l u)
+    inside = held-inside n related
 
-    same-viewed : (p q : ℕ) → p < n → q < n → relationOf n viewed p q ≡ s .viewed p q
+    reflexive : (g : ℕ) → g < n → T (s .related g g)
+    unfolding tableLts eachAction
+    reflexive g h = steady 0 .during 0 .loop h
+
+    held : (p q : ℕ) → p < 256 → q < 256 → setAt blocks p q ≡ true → T (block (s .related) p q)
+    held p q l u e = subst T (sym e ∙ same-blocks p q l u) tt
+
+    -- the relations agree below n, and have no other pair
+    close : (p q : ℕ) → p < n → q < n → (p < 256) × (q < 256)
+    close p q h l = (omega (arith, h, ok .states), omega (arith, l, ok .states))
+
+    related-close : (p q : ℕ) → p < n → q < n → setAt related p q ≡ s .related p q
+    related-close p q h l = let u = close p q h l in same-related p q (u .0) (u .1)
+
+    viewed-close : (p q : ℕ) → p < n → q < n → setAt viewed p q ≡ s .viewed p q
+    viewed-close p q h l = let u = close p q h l in same-viewed p q (u .0) (u .1)
+
+    blocks-close : (p q : ℕ) → p < n → q < n → setAt blocks p q ≡ block (setAt related) p q
+    unfolding block
+    blocks-close p q h l = let u = close p q h l in same-blocks p q (u .0) (u .1) ∙ sym (ap₂ _&&_ (related-close p q h l) (related-close q p l h))
+
+    related-in : (p q : ℕ) → p < 256 → q < 256 → setAt related p q ≡ true → (p < n) × (q < n)
+    related-in p q h l e = inside p q (subst T (sym e ∙ same-related p q h l) tt)
+
+    viewed-in : (p q : ℕ) → p < 256 → q < 256 → setAt viewed p q ≡ true → (p < n) × (q < n)
     unfolding relationsOf
-    same-viewed p q l u = sym (held-at n viewed p q l u)
+    viewed-in p q h l e = held-inside n viewed p q (subst T (sym e ∙ same-viewed p q h l) tt)
 
-    same-blocks : (p q : ℕ) → p < n → q < n → relationOf n blocks p q ≡ block (relationOf n related) p q
-    same-blocks = relation-of n _ blocks-of
+    size : L .states ≡ n
+    unfolding tableLts
+    size = refl
 
-    reflexive : (g : ℕ) → g < n → relationOf n related g g ≡ true
-    unfolding tableLts eachAction relationsOf
-    reflexive g h = sym (held-at n related g g h h) ∙ T-true (heldBy n related g g) (steady 0 .during 0 .loop h)
+    module _ {all : List ℕ} (all-is : all ≡ rowOf 4 (λ q. ltb q n)) where
+      below : (q : ℕ) → q < 256 → inRow all q ≡ true → q < n
+      below q h e = ltb-true q n (sym (set-in _ all-is q h) ∙ e)
 
-    held : (p q : ℕ) → p < n → q < n → relationOf n blocks p q ≡ true → T (block (s .related) p q)
-    unfolding relationsOf
-    held p q l u e = subst T (sym e ∙ same-blocks p q l u ∙ block-held n related p q l u) tt
+      within : (q : ℕ) → q < n → inRow all q ≡ true
+      within q h = set-in _ all-is q (omega (arith, h, ok .states)) ∙ lt-ltb q n h
 
-    -- the blocks are blocks, and a state outside a set of all states is none
-    pub parted-first : Parted n (relationOf n blocks) (inRow (replicate 4 18446744073709551615))
-    unfolding block tableLts eachAction relationsOf
-    parted-first = record {
-      classes = record {
-        sym = λ g h hg hh e. same-blocks h g hh hg ∙ turn (relationOf n related g h) (relationOf n related h g) (sym (same-blocks g h hg hh) ∙ e);
-        loop = λ g hg. same-blocks g g hg hg ∙ ap (λ (b : Bool). b && b) (reflexive g hg);
+      -- the blocks are blocks, and a state outside the set of all states has none
+      pub parted-first : Parted (setAt blocks) (inRow all)
+      unfolding tableLts eachAction
+      parted-first = record {
+        sym = λ g h hg hh e. let u = block-iff (s .related) g h .0 (held g h hg hh e) in same-blocks h g hh hg ∙ T-true _ (block-iff (s .related) h g .1 (u .1, u .0));
         trans = λ g h k hg hh hk e d.
             let 𝓑 = steady 0 .during 0 in
             let u = block-iff (s .related) g h .0 (held g h hg hh e) in
             let v = block-iff (s .related) h k .0 (held h k hh hk d) in
-            same-blocks g k hg hk ∙ block-held n related g k hg hk
-            ∙ T-true (block (s .related) g k) (block-iff (s .related) g k .1 (𝓑 .shiftL (v .0) (u .1) (u .0), 𝓑 .shiftR (v .1) (u .1) (u .0)));
-      };
-      single = λ g h hg hh out e. absurd (true≢false (sym (inRow-ones 4 g (omega (arith, hg, ok .states))) ∙ out));
-    }
-      where
-        turn : (a b : Bool) → a && b ≡ true → b && a ≡ true
-        turn true true e = refl
-        turn true false e = e
-        turn false b e = absurd (true≢false (sym e))
+            same-blocks g k hg hk ∙ T-true _ (block-iff (s .related) g k .1 (𝓑 .shiftL (v .0) (u .1) (u .0), 𝓑 .shiftR (v .1) (u .1) (u .0)));
+        single = λ g h hg hh out e. absurd (clash (within g (inside g h (block-iff (s .related) g h .0 (held g h hg hh e) .0) .0)) out);
+      }
 
-    module _ {pending : List ℕ} {c : ℕ} (pending-is : pending ≡ rowOf 4 (statesBelow n (pendingAt n related viewed blocks))) (count : c ≡ length (passing n (inRow pending))) where
-      listed : passing n (inRow pending) ≡ passing n (pendingAt n related viewed blocks)
-      listed = partition.passing-row n (pendingAt n related viewed blocks) pending (ok .states) pending-is
+      pub owned-first : Owned (setAt blocks) (inRow all)
+      owned-first g h e = let r = reflexive g (below g h e) in same-blocks g g h h ∙ T-true _ (block-iff (s .related) g g .1 (r, r))
 
-      counted : c ≡ length (passing n (pendingAt n related viewed blocks))
-      counted = count ∙ ap length listed
+      -- the pending set without a state is right outside the set of all states
+      pub pending-first : (none : List ℕ) → ((q : ℕ) → inRow none q ≡ false) → (p : ℕ) → p < 256 → inRow all p ≡ false → inRow none p ≡ pendingAt related viewed blocks p
+      pending-first none zero p h out =
+          let l : n ≤ p = ⊎-elim (λ (u : p < n). absurd (clash (within p u) out)) (λ (u : n ≤ p). u) (lt-or-ge p n) in
+          zero p ∙ sym (partition.pending-off L s n (setAt related) (setAt viewed) (setAt blocks) (ok .states) size related-close viewed-close blocks-close related-in viewed-in p l h)
 
-      module _ (some : 0 < c) where
+    -- the pending ones are those of the rule
+    module _ {pending : List ℕ} (pending-is : pending ≡ rowOf 4 (pendingAt related viewed blocks)) where
+      any-is : anyBelow 256 (inRow pending) ≡ anyState L (Refinement.pending L s)
+      any-is = partition.any-is L s n (setAt related) (setAt viewed) (setAt blocks) (ok .states) size related-close viewed-close blocks-close related-in viewed-in pending pending-is
+
+      module _ (some : anyBelow 256 (inRow pending) ≡ true) where
         any : T (anyState L (Refinement.pending L s))
-        unfolding tableLts
-        any = partition.some-pending L s n (relationOf n related) (relationOf n viewed) (relationOf n blocks) refl same-related same-viewed same-blocks (subst (λ (x : ℕ). 0 < x) counted some)
+        any = subst T (sym some ∙ any-is) tt
 
         pub loop-below : steps < n * n
         unfolding tableLts
-        loop-below = state-below L wf from pre schedule steps related viewed blocks state any
+        loop-below = state-below L wf from pre schedule few steps related viewed blocks state any
 
-        module _ (b : ℕ) (chose : b ≡ getD (passing n (inRow pending)) (getD schedule steps 0 % c) 0) where
+        module _ (b : ℕ) (chose : b ≡ getD (passing 256 (inRow pending)) (getD schedule steps 0 % length (passing 256 (inRow pending))) 0) where
           b-is : b ≡ chosen L (getD schedule steps 0) s
-          unfolding tableLts
-          b-is = chose ∙ ap (λ (x : ℕ). getD (passing n (inRow pending)) (getD schedule steps 0 % x) 0) count
-              ∙ ap (λ (l : List ℕ). getD l (getD schedule steps 0 % length l) 0) listed
-              ∙ partition.chosen-is L s n (relationOf n related) (relationOf n viewed) (relationOf n blocks) refl same-related same-viewed same-blocks (getD schedule steps 0)
+          b-is =
+              chose
+              ∙ partition.chosen-is L s n (setAt related) (setAt viewed) (setAt blocks) (ok .states) size related-close viewed-close blocks-close related-in viewed-in pending pending-is (getD schedule steps 0)
 
           pub b-below : b < n
           unfolding tableLts
-          b-below = subst (λ (x : ℕ). x < n) (sym b-is) (chosen-below L wf from pre schedule steps related viewed blocks state (getD schedule steps 0) any)
+          b-below = subst (λ (x : ℕ). x < n) (sym b-is) (chosen-below L wf from pre schedule few steps related viewed blocks state (getD schedule steps 0) any)
 
-          pub loop-next : (related′ viewed′ blocks′ : List ℕ) → related′ ≡ matrixOf n (stepOf L b s .related) → viewed′ ≡ matrixOf n (stepOf L b s .viewed)
-              → blocks′ ≡ matrixOf n (block (stepOf L b s .related)) → State L from schedule (steps + 1) related′ viewed′ blocks′
+          pub loop-step : {places rows all shared : List ℕ} → Index t places rows → all ≡ rowOf 4 (λ q. ltb q n) → Parted (setAt blocks) (inRow shared)
+              → Stepping t places rows all b related viewed blocks shared
           unfolding tableLts
-          loop-next related′ viewed′ blocks′ e d k = rw add-one (state-next L wf from pre schedule steps related viewed blocks state b related′ viewed′ blocks′ any b-is e d k)
+          loop-step index all-is parts = record {
+            index = index;
+            all-is = all-is;
+            begun = record { low = b-below; related-is = state .related-is; viewed-is = state .viewed-is; blocks-is = state .blocks-is; parts = parts };
+            steady = steady b;
+          }
 
-      module _ (none : c ≡ 0) where
+          pub loop-next : {shared related′ viewed′ blocks′ touched : List ℕ} → Made t b shared related viewed blocks related′ viewed′ blocks′ touched → State L from schedule (steps + 1) related′ viewed′ blocks′
+          unfolding tableLts
+          loop-next {related′ = related′} {viewed′} {blocks′} made =
+              rw add-one (state-next L wf from pre schedule few steps related viewed blocks state b related′ viewed′ blocks′ any b-is (made .related-is) (made .viewed-is) (made .blocks-is))
+
+      module _ (none : anyBelow 256 (inRow pending) ≡ false) where
         ended : coarsest L from schedule ≡ record { final = s; steps = steps }
         unfolding tableLts
-        ended = state-end L wf from pre schedule steps related viewed blocks state
-            (partition.none-pending L s n (relationOf n related) (relationOf n viewed) (relationOf n blocks) refl same-related same-viewed same-blocks (sym counted ∙ none))
+        ended = state-end L wf from pre schedule few steps related viewed blocks state (λ u. subst T (sym any-is ∙ none) u)
 
         pub end-steps : steps ≡ coarsest L from schedule .steps
         end-steps = sym (ap (λ (r : Run). r .steps) ended)
 
-        pub end-related : related ≡ matrixOf n (coarsest L from schedule .final .related)
+        pub end-related : related ≡ setsOf 256 (coarsest L from schedule .final .related)
         unfolding tableLts relationsOf
-        end-related = state .related-is ∙ sym (ap (λ (r : Run). matrixOf n (r .final .related)) ended)
+        end-related = state .related-is ∙ sym (ap (λ (r : Run). setsOf 256 (r .final .related)) ended)
 
-        pub end-blocks : blocks ≡ matrixOf n (block (coarsest L from schedule .final .related))
+        pub end-blocks : blocks ≡ setsOf 256 (block (coarsest L from schedule .final .related))
         unfolding tableLts relationsOf
-        end-blocks = state .blocks-is ∙ sym (ap (λ (r : Run). matrixOf n (block (r .final .related))) ended)
+        end-blocks = state .blocks-is ∙ sym (ap (λ (r : Run). setsOf 256 (block (r .final .related))) ended)

@@ -1,84 +1,50 @@
--- One refinement step on matrices is the step of the refinement rule on what they hold.
-use Prim.Native.Nat.{ℕ, _*_, _≤_, _<_}
+-- One refinement step on lists of sets is the step of the refinement rule on what they hold.
+use Prim.Native.Nat.{ℕ, zero, suc, _-_, _^_, _≤_, _<_}
 use native.Mathlib.Omega.{arith}
-use mathlib.Core.Path.{_≡_, refl, sym, _∙_, ap, ap₂, subst}
-use mathlib.Core.Bool.{Bool, true, false, cond, not, _&&_, _||_}
-use mathlib.Core.List.{List, _++_}
-use lib.Dec.{T}
-use lib.ListN.{drop, getD}
-use Rattle.lts.specs.Bounded.{countBelow}
-use Rattle.lts.proofs.Count.{count-lt, count-most}
-use Rattle.rows.proofs.Counts.{count-shorter}
-use Rattle.lts.specs.System.{Set, Lts, into}
-use Rattle.lts.specs.Refinement.{Relations, block, remove, stepOf}
+use mathlib.Core.Path.{_≡_, refl, sym, _∙_, ap, ap₂, subst, fun-ext}
+use mathlib.Core.Bool.{Bool, true, false, cond, not, _&&_, _||_, and-true, and-false, true≢false}
+use mathlib.Core.Logic.{_⊎_, inl, inr, ⊎-elim}
+use mathlib.Core.List.{List}
+use lib.Dec.{T, ltb}
+use lib.ListN.{getD}
+use borrow.Author.Tests.{lt-ltb, le-ltb, ltb-true}
+use Rattle.lts.specs.Bounded.{anyBelow, restrict}
+use Rattle.lts.specs.System.{Set, Rel, Lts, anyState, into}
+use Rattle.lts.specs.Refinement.{Relations, block, remove, refine, eachAction, stepOf}
+use Rattle.lts.proofs.Bounded.{test-ext, restrict-iff}
+use Rattle.lts.proofs.Below.{T-true, any-cong, any-no, any-yes, any-some, and-fst, and-snd, bool-iff, clash, neither, lt-or-ge}
 use Rattle.lts.proofs.Step.{block-iff}
-use Rattle.rows.specs.Rows.{inRow, rowOf, statesBelow}
-use Rattle.relation.specs.Matrix.{relationOf, matrixOf}
-use Rattle.rows.proofs.Rows.{inRow-of, inRow-written, states-in, states-out}
-use Rattle.relation.proofs.Matrices.{relation-of, matrixOf-cong}
-use Rattle.transitions.specs.Table.{statesOf, actionsOf, countOf, tableLts, Formed}
-use Rattle.transitions.specs.Filling.{actionSet}
+use Rattle.rows.specs.Rows.{bit, inRow, rowOf}
+use Rattle.sets.specs.Sets.{setAt, setsOf}
+use Rattle.sets.specs.Parts.{Parted, Owned}
+use Rattle.sets.proofs.Lists.{set-in, sets-in, sets-cong}
+use Rattle.transitions.specs.Table.{statesOf, actionsOf, tableLts, Formed}
 use Rattle.transitions.proofs.Entries.{table-formed}
-use Rattle.predecessors.specs.Sources.{Keyed, keysInto}
-use Rattle.predecessors.proofs.Laws.{sets-into, remove-set-is}
-use Rattle.predecessors.proofs.Tables.{into-cong}
-use Rattle.splitting.proofs.Laws.{hit-free}
-use Rattle.refinement.specs.Engine.{relationsOf, acted, Before, Steady, Untouched, Unmoved}
-use Rattle.refinement.proofs.Laws.{held-at, block-held}
+use Rattle.adjacency.specs.Adjacency.{Index}
+use Rattle.splitting.specs.Split.{splitBlocks, refinedRelated}
+use Rattle.splitting.proofs.Laws.{hit-free, refined-cong, split-blocks-cong, SameRel}
+use Rattle.refinement.specs.Engine.{heldBy, relationsOf, stepped, Refined, actionsTo, acted, removedBy, hitsBy, Idle, Turning, Fixed, Owning, Untouched, Done, Before, Steady, Stepping, Made}
+use Rattle.refinement.proofs.Laws.{held-inside}
 use Rattle.refinement.proofs.Actions.{acted-related, acted-blocks}
 
--- N, from the rows of V and K
-pub outside-row : (n : ℕ) (S : Set) (whole inside outside : List ℕ) → n ≤ 256 → whole ≡ rowOf 4 (statesBelow n S)
-    → outside ≡ rowOf 4 (λ q. inRow whole q && not (inRow inside q)) ++ drop 4 whole → (q : ℕ) → q < n → inRow outside q ≡ S q && not (inRow inside q)
-outside-row n S whole inside outside small e d q h =
-    ap (λ (l : List ℕ). inRow l q) d ∙ inRow-written 4 (λ q. inRow whole q && not (inRow inside q)) (drop 4 whole) q below
-    ∙ ap (λ (b : Bool). b && not (inRow inside q)) (ap (λ (l : List ℕ). inRow l q) e ∙ inRow-of 4 (statesBelow n S) q below ∙ states-in n S q h)
-  where
-    below : q < 4 * 64
-    below = omega (arith, small, h)
+-- a transition goes into sets that agree on the states alike
+pub into-same : (L : Lts) (a : ℕ) {X Y : Set} → ((q : ℕ) → q < L .states → X q ≡ Y q) → (p : ℕ) → into L a X p ≡ into L a Y p
+unfolding into anyState
+into-same L a e p = any-cong (L .states) _ _ (λ t h. ap (λ (b : Bool). L .transition p a t && b) (e t h))
 
--- a set of states that are as many as there are has each
-all-seen : (n : ℕ) (S : Set) (seen : List ℕ) → n ≤ 256 → seen ≡ rowOf 4 (statesBelow n S) → countBelow (4 * 64) (inRow seen) ≡ n → (q : ℕ) → q < n → S q ≡ true
-all-seen n S seen small e full q h = go (S q) refl
-  where
-    at : (x : ℕ) → x < 4 * 64 → inRow seen x ≡ statesBelow n S x
-    at x l = ap (λ (l : List ℕ). inRow l x) e ∙ inRow-of 4 (statesBelow n S) x l
+-- the actions by rows, from relations that agree
+actions-cong : (Rem Hits : ℕ → Set) (j : ℕ) {r s : Refined} → SameRel 256 (r .related) (s .related) → SameRel 256 (r .blocks) (s .blocks)
+    → SameRel 256 (actionsTo Rem Hits j r .related) (actionsTo Rem Hits j s .related) × SameRel 256 (actionsTo Rem Hits j r .blocks) (actionsTo Rem Hits j s .blocks)
+unfolding actionsTo
+actions-cong Rem Hits zero e d = (e, d)
+actions-cong Rem Hits (suc j) e d =
+    let ih = actions-cong Rem Hits j e d in
+    (refined-cong 256 (λ _ _. refl) (λ _ _. refl) (ih .0) (ih .1), split-blocks-cong 256 (λ _ _. refl) (ih .1))
 
-    go : (b : Bool) → S q ≡ b → b ≡ true
-    go true s = refl
-    go false s =
-        let below : q < 4 * 64 = omega (arith, small, h) in
-        let out : inRow seen q ≡ false = at q below ∙ states-in n S q h ∙ s in
-        let fewer = count-lt n (inRow seen) (λ x. true) (λ x _ _. tt) q h (λ t. subst T out t) tt in
-        let most = count-most n (λ x. true) in
-        let same = count-shorter n (4 * 64) (inRow seen) (omega (arith, small)) (λ x l u. at x u ∙ states-out n S x l) in
-        absurd (omega (arith, fewer, most, same, full))
+less : (j : ℕ) → suc j - 1 ≡ j
+less j = omega arith
 
-either : (b : Bool) → true && not b || b ≡ true
-either true = refl
-either false = refl
-
--- N and Y have all targets where V has every state
-pub step-targets : {t keys targets : List ℕ} → Formed t → Keyed t keys targets → (W : Set) (seen inside outside : List ℕ)
-    → ((q : ℕ) → q < statesOf t → inRow outside q ≡ W q && not (inRow inside q))
-    → seen ≡ rowOf 4 (statesBelow (statesOf t) W) → countBelow (4 * 64) (inRow seen) ≡ statesOf t
-    → (i : ℕ) → i < countOf t → inRow outside (getD targets i 0) || inRow inside (getD targets i 0) ≡ true
-step-targets {t} {targets = targets} ok keyed W seen inside outside outside-is seen-is full i h =
-    let q = getD targets i 0 in
-    let low : q < statesOf t = omega (arith, keyed .target i h, ok .target i h) in
-    ap (λ (b : Bool). b || inRow inside q) (outside-is q low ∙ ap (λ (b : Bool). b && not (inRow inside q)) (all-seen (statesOf t) W seen (ok .states) seen-is full q low))
-    ∙ either (inRow inside q)
-
--- What the step of b's block finds before its actions: the rows of B, Y and N, Rem of every action, and what leads into B.
-pub record Found (t keys targets : List ℕ) (b : ℕ) (related viewed blocks members inside outside removed leading : List ℕ) : Type 0 where
-  pub members-is : members ≡ rowOf 4 (statesBelow (statesOf t) (relationOf (statesOf t) blocks b))
-  pub inside-is : inside ≡ rowOf 4 (statesBelow (statesOf t) (relationOf (statesOf t) related b))
-  pub outside-is : (q : ℕ) → q < statesOf t → inRow outside q ≡ relationOf (statesOf t) viewed b q && not (inRow inside q)
-  pub removed-is : removed ≡ rowOf 260 (λ x. keysInto (countOf t) keys targets (inRow outside) x && not (keysInto (countOf t) keys targets (inRow inside) x))
-  pub leading-is : leading ≡ rowOf 260 (keysInto (countOf t) keys targets (inRow members))
-
-module _ {t keys targets : List ℕ} {b : ℕ} {related viewed blocks shared members inside outside removed leading : List ℕ} (ok : Formed t) (keyed : Keyed t keys targets)
-    (begun : Before (statesOf t) b related viewed blocks shared) (found : Found t keys targets b related viewed blocks members inside outside removed leading) where
+module _ {t places rows all : List ℕ} {b : ℕ} {related viewed blocks shared : List ℕ} (at : Stepping t places rows all b related viewed blocks shared) where
   abbrev n : ℕ
   n = statesOf t
 
@@ -97,72 +63,220 @@ module _ {t keys targets : List ℕ} {b : ℕ} {related viewed blocks shared mem
   abbrev N : Set
   N q = s .viewed b q && not (s .related b q)
 
-  below : (q : ℕ) → q < n → q < 256
-  below q h = omega (arith, ok .states, h)
+  ok : Formed t
+  ok = at .index .formed
 
-  row-in : (row : List ℕ) (S : Set) → row ≡ rowOf 4 (statesBelow n S) → (q : ℕ) → q < n → inRow row q ≡ S q
-  row-in row S e q h = ap (λ (l : List ℕ). inRow l q) e ∙ inRow-of 4 (statesBelow n S) q (below q h) ∙ states-in n S q h
+  small : n ≤ 256
+  small = ok .states
 
-  in-members : (q : ℕ) → q < n → inRow members q ≡ B q
+  low : b < 256
+  low = omega (arith, at .begun .low, small)
+
+  same-related : (p q : ℕ) → p < 256 → q < 256 → setAt related p q ≡ s .related p q
   unfolding relationsOf
-  in-members q h =
-      row-in members (relationOf n blocks b) (found .members-is) q h ∙ relation-of n _ (begun .blocks-is) b q (begun .low) h ∙ block-held n related b q (begun .low) h
+  same-related = sets-in 256 _ (at .begun .related-is)
 
-  in-inside : (q : ℕ) → q < n → inRow inside q ≡ Y q
+  same-viewed : (p q : ℕ) → p < 256 → q < 256 → setAt viewed p q ≡ s .viewed p q
   unfolding relationsOf
-  in-inside q h = row-in inside (relationOf n related b) (found .inside-is) q h ∙ sym (held-at n related b q (begun .low) h)
+  same-viewed = sets-in 256 _ (at .begun .viewed-is)
 
-  in-outside : (q : ℕ) → q < n → inRow outside q ≡ N q
+  same-blocks : (p q : ℕ) → p < 256 → q < 256 → setAt blocks p q ≡ block (s .related) p q
   unfolding relationsOf
-  in-outside q h = found .outside-is q h ∙ ap₂ (λ (x y : Bool). x && not y) (sym (held-at n viewed b q (begun .low) h)) (in-inside q h)
+  same-blocks = sets-in 256 _ (at .begun .blocks-is)
 
-  -- the rows outside what the step touched
-  pub step-unmoved : {touched touched′ related′ viewed′ blocks′ : List ℕ} → touched ≡ members → Untouched n related blocks touched related′ blocks′ touched′
-      → viewed′ ≡ matrixOf n (λ g h. cond (inRow members g) (inRow inside h) (relationOf n viewed g h)) → Unmoved n touched′ related viewed blocks related′ viewed′ blocks′
-  step-unmoved same rows e = record {
-    related-same = rows .related-same;
-    viewed-same = λ g h l u out. relation-of n _ e g h l u
-        ∙ ap (λ (b : Bool). cond b (inRow inside h) (relationOf n viewed g h)) (sym (ap (λ (l : List ℕ). inRow l g) same) ∙ rows .grows g l out);
-    blocks-same = rows .blocks-same;
-  }
+  reflexive : (g : ℕ) → g < n → T (s .related g g)
+  unfolding eachAction tableLts
+  reflexive g h = at .steady .during 0 .loop h
 
-  -- V
-  pub step-viewed : (viewed′ : List ℕ) → viewed′ ≡ matrixOf n (λ g h. cond (inRow members g) (inRow inside h) (relationOf n viewed g h))
-      → viewed′ ≡ matrixOf n (stepOf L b s .viewed)
-  unfolding stepOf relationsOf
-  step-viewed viewed′ e = e ∙ matrixOf-cong n _ _ (λ g h l u. rw (in-members g l, in-inside h u, held-at n viewed g h l u))
+  pub step-owning : Owning t blocks
+  step-owning g h = same-blocks g g (omega (arith, h, small)) (omega (arith, h, small)) ∙ T-true _ (block-iff (s .related) g g .1 (reflexive g h, reflexive g h))
 
-  -- K and its blocks
-  rem : (a q : ℕ) → a ≤ actionsOf t → q < n → actionSet removed a q ≡ remove L a Y N q
-  unfolding remove
-  rem a q l h =
-      remove-set-is ok keyed (inRow inside) (inRow outside) a q (found .removed-is) (omega (arith, l, ok .labels)) (below q h)
-      ∙ ap₂ (λ (x y : Bool). x && not y) (into-cong ok (inRow outside) N in-outside a q) (into-cong ok (inRow inside) Y in-inside a q)
+  -- a set of all states
+  all-in : (q : ℕ) → q < n → inRow all q ≡ true
+  all-in q h = set-in _ (at .all-is) q (omega (arith, h, small)) ∙ lt-ltb q n h
 
-  hits : (a q : ℕ) → a ≤ actionsOf t → q < n → actionSet leading a q ≡ into L a B q
-  hits a q l h =
-      sets-into ok keyed (inRow members) (found .leading-is) a q (omega (arith, l, ok .labels)) (below q h)
-      ∙ into-cong ok (inRow members) B in-members a q
+  all-below : (q : ℕ) → q < 256 → inRow all q ≡ true → q < n
+  all-below q h e = ltb-true q n (sym (set-in _ (at .all-is) q h) ∙ e)
 
-  free : (a x : ℕ) → T (into L a B x) → T (remove L a Y N x) → ⊥
-  free a = hit-free (table-formed t ok) B Y N a (λ q u. block-iff (s .related) b q .0 u .0)
+  module _ {members inside outside : List ℕ} {actions : ℕ} {whole : Bool} (turn : Turning rows all shared b related viewed blocks members inside outside actions whole) where
+    in-members : (q : ℕ) → q < 256 → inRow members q ≡ B q
+    in-members q h = set-in _ (turn .members-is) q h ∙ same-blocks b q low h
 
-  pub step-free : (a x : ℕ) → a ≤ actionsOf t → x < n → actionSet leading a x ≡ true → actionSet removed a x ≡ false
-  step-free a x l h e = go (actionSet removed a x) refl
-    where
-      go : (b : Bool) → actionSet removed a x ≡ b → b ≡ false
-      go false r = refl
-      go true r = absurd (free a x (subst T (sym e ∙ hits a x l h) tt) (subst T (sym r ∙ rem a x l h) tt))
+    in-inside : (q : ℕ) → q < 256 → inRow inside q ≡ Y q
+    in-inside q h = set-in _ (turn .inside-is) q h ∙ same-related b q low h
 
-  module _ (steady : Steady L b s) where
-    pub step-related : (related′ : List ℕ) → related′ ≡ matrixOf n (acted n removed leading (actionsOf t) related blocks .related)
-        → related′ ≡ matrixOf n (stepOf L b s .related)
-    unfolding stepOf tableLts relationsOf
-    step-related related′ e = e ∙ acted-related L B Y N (s .related) removed leading _ (steady .during) free rem hits
-        (λ p q l u. sym (held-at n related p q l u)) (λ p q l u. relation-of n _ (begun .blocks-is) p q l u ∙ block-held n related p q l u)
+    in-outside : (q : ℕ) → q < 256 → inRow outside q ≡ N q
+    in-outside q h = set-in _ (turn .outside-is) q h ∙ ap₂ (λ (x y : Bool). x && not y) (same-viewed b q low h) (same-related b q low h)
 
-    pub step-blocks : (blocks′ : List ℕ) → blocks′ ≡ matrixOf n (acted n removed leading (actionsOf t) related blocks .blocks)
-        → blocks′ ≡ matrixOf n (block (stepOf L b s .related))
-    unfolding stepOf tableLts relationsOf
-    step-blocks blocks′ e = e ∙ acted-blocks L B Y N (s .related) removed leading _ (steady .during) free rem hits
-        (λ p q l u. sym (held-at n related p q l u)) (λ p q l u. relation-of n _ (begun .blocks-is) p q l u ∙ block-held n related p q l u)
+    below : (q : ℕ) → q < L .states → q < 256
+    unfolding tableLts
+    below q h = omega (arith, h, small)
+
+    -- ---- what is fixed for the actions
+
+    either : (v y : Bool) → v ≡ true → y || (v && not y) ≡ true
+    either v true e = refl
+    either v false e = and-true v ∙ e
+
+    covers : whole ≡ true → (q : ℕ) → q < n → inRow inside q || inRow outside q ≡ true
+    covers e q h =
+        let u : q < 256 = omega (arith, h, small) in
+        ap₂ _||_ (set-in _ (turn .inside-is) q u) (set-in _ (turn .outside-is) q u) ∙ either (setAt viewed b q) (setAt related b q) (turn .whole-is e q u ∙ all-in q h)
+
+    -- no transition by an action goes into a set, where there is none, or none into its members
+    no-into : (a : ℕ) (X : Set) → ((p q : ℕ) → p < 256 → q < n → X q ≡ true → L .transition p a q ≡ false) → (p : ℕ) → p < 256 → into L a X p ≡ false
+    unfolding into anyState tableLts
+    no-into a X none p h = sym (any-no n _ (λ q u. go (X q) (none p q h u)))
+      where
+        go : {r : Bool} (x : Bool) → (x ≡ true → r ≡ false) → r && x ≡ false
+        go {r} true f = and-true r ∙ f refl
+        go {r} false f = and-false r
+
+    off : (k : ℕ) (f : Set) → anyBelow k f ≡ false → (i : ℕ) → i < k → f i ≡ false
+    off k f e i h = go (f i) refl
+      where
+        go : (x : Bool) → f i ≡ x → x ≡ false
+        go false r = refl
+        go true r = absurd (clash (sym (any-yes k f i h r)) e)
+
+    -- by an action that no transition has, Rem is empty
+    unused : (j : ℕ) → j < actionsOf t → bit (getD rows 256 0) j ≡ false → (q : ℕ) → q < 256 → remove L (suc j) (inRow inside) (inRow outside) q ≡ false
+    unfolding remove
+    unused j h e q u =
+        ap (λ (x : Bool). x && not (into L (suc j) (inRow inside) q)) (no-into (suc j) (inRow outside) (λ p r hp hr _.
+        off 256 (λ p. L .transition p (suc j) r) (off 256 (λ q. anyBelow 256 (λ p. L .transition p (suc j) q)) (sym (at .index .used (suc j) (omega arith) h) ∙ ap (bit (getD rows 256 0)) (less j) ∙ e) r (omega (arith, hr, small))) p hp) q u)
+
+    -- by one with no transition into b, which is alone in its block, there is no hit
+    missed : (j : ℕ) → j < actionsOf t → inRow shared b ≡ false → bit (getD rows b 0) j ≡ false → (q : ℕ) → q < 256 → into L (suc j) (inRow members) q ≡ false
+    missed j h lone e = no-into (suc j) (inRow members) (λ p r hp hr m.
+        let u : r < 256 = omega (arith, hr, small) in
+        let same = at .begun .parts .single b r low u lone (sym (set-in _ (turn .members-is) r u) ∙ m) in
+        ap (L .transition p (suc j)) same ∙ off 256 (λ p. L .transition p (suc j) b) (sym (at .index .actions (suc j) b (omega arith) h low) ∙ ap (bit (getD rows b 0)) (less j) ∙ e) p hp)
+
+    abbrev Picked : ℕ → Type 0
+    Picked word = (j : ℕ) → j < actionsOf t → bit word j ≡ false → Idle (removedBy t (inRow inside) (inRow outside) (suc j)) (hitsBy t (inRow members) (suc j)) (inRow shared)
+
+    no-more : (j : ℕ) → actionsOf t ≤ j → j < 64 → bit actions j ≡ false
+    no-more j l h = ap (λ (x : ℕ). bit x j) (turn .actions-is) ∙ go (anyBelow 256 (inRow shared))
+      where
+        go : (x : Bool) → bit (cond x (getD rows 256 0) (getD rows b 0)) j ≡ false
+        go true = at .index .no-more j 256 (omega arith) l h
+        go false = at .index .no-more j b (omega (arith, low)) l h
+
+    idle : Picked actions
+    idle j h = subst (λ (w : ℕ). bit w j ≡ false → Idle (removedBy t (inRow inside) (inRow outside) (suc j)) (hitsBy t (inRow members) (suc j)) (inRow shared)) (sym (turn .actions-is)) (go (anyBelow 256 (inRow shared)) refl)
+      where
+        go : (x : Bool) → anyBelow 256 (inRow shared) ≡ x → bit (cond x (getD rows 256 0) (getD rows b 0)) j ≡ false
+            → Idle (removedBy t (inRow inside) (inRow outside) (suc j)) (hitsBy t (inRow members) (suc j)) (inRow shared)
+        go true some e = inl (unused j h e)
+        go false none e = inr (missed j h (off 256 (inRow shared) none b low) e, off 256 (inRow shared) none)
+
+    pub step-fixed : ((j : ℕ) → getD rows j 0 < 2 ^ 64) → Fixed t places rows actions (inRow members) (inRow inside) (inRow outside) (inRow shared) whole
+    step-fixed words = record { index = at .index; small = subst (λ (x : ℕ). x < 2 ^ 64) (sym (turn .actions-is)) (picked (anyBelow 256 (inRow shared))); covers = covers; no-more = no-more; idle = idle }
+      where
+        picked : (x : Bool) → cond x (getD rows 256 0) (getD rows b 0) < 2 ^ 64
+        picked true = words 256
+        picked false = words b
+
+    -- ---- what the actions make
+
+    rem-is : (a q : ℕ) → remove L a (inRow inside) (inRow outside) q ≡ remove L a Y N q
+    unfolding remove
+    rem-is a q = ap₂ (λ (x y : Bool). x && not y) (into-same L a (λ p h. in-outside p (below p h)) q) (into-same L a (λ p h. in-inside p (below p h)) q)
+
+    hits-is : (a q : ℕ) → into L a (inRow members) q ≡ into L a B q
+    hits-is a q = into-same L a (λ p h. in-members p (below p h)) q
+
+    free : (a x : ℕ) → T (into L a B x) → T (remove L a Y N x) → ⊥
+    free a = hit-free (table-formed t ok) B Y N a (λ q u. block-iff (s .related) b q .0 u .0)
+
+    abbrev first : Refined
+    first = record { related = setAt related; blocks = setAt blocks }
+
+    abbrev ruled : Refined
+    ruled = record { related = s .related; blocks = block (s .related) }
+
+    by-rule : (j : ℕ) → SameRel 256 (acted (removedBy t (inRow inside) (inRow outside)) (hitsBy t (inRow members)) j related blocks .related)
+        (actionsTo (λ a. remove L a Y N) (λ a. into L a B) j ruled .related)
+        × SameRel 256 (acted (removedBy t (inRow inside) (inRow outside)) (hitsBy t (inRow members)) j related blocks .blocks)
+        (actionsTo (λ a. remove L a Y N) (λ a. into L a B) j ruled .blocks)
+    by-rule j =
+        subst (λ (Rem : ℕ → Set). SameRel 256 (actionsTo Rem (hitsBy t (inRow members)) j first .related) (actionsTo (λ a. remove L a Y N) (λ a. into L a B) j ruled .related)
+        × SameRel 256 (actionsTo Rem (hitsBy t (inRow members)) j first .blocks) (actionsTo (λ a. remove L a Y N) (λ a. into L a B) j ruled .blocks))
+        (fun-ext (λ a. fun-ext (λ q. sym (rem-is a q))))
+        (subst (λ (Hits : ℕ → Set). SameRel 256 (actionsTo (λ a. remove L a Y N) Hits j first .related) (actionsTo (λ a. remove L a Y N) (λ a. into L a B) j ruled .related)
+        × SameRel 256 (actionsTo (λ a. remove L a Y N) Hits j first .blocks) (actionsTo (λ a. remove L a Y N) (λ a. into L a B) j ruled .blocks))
+        (fun-ext (λ a. fun-ext (λ q. sym (hits-is a q))))
+        (actions-cong (λ a. remove L a Y N) (λ a. into L a B) j same-related same-blocks))
+
+    module _ {related′ viewed′ blocks′ touched : List ℕ} (done : Done t (inRow members) (inRow inside) (inRow outside) related blocks related′ blocks′ touched)
+        (view : viewed′ ≡ setsOf 256 (λ p q. cond (inRow members p) (inRow inside q) (setAt viewed p q))) where
+      few : L .states ≤ 256
+      unfolding tableLts
+      few = small
+
+      related-next : related′ ≡ setsOf 256 (stepOf L b s .related)
+      unfolding stepOf tableLts
+      related-next = done .related-is ∙ sets-cong 256 _ _ (λ p q h l. by-rule (actionsOf t) .0 p q h l ∙ acted-related L few B Y N (s .related) (at .steady .during) free (actionsOf t) p q)
+
+      blocks-next : blocks′ ≡ setsOf 256 (block (stepOf L b s .related))
+      unfolding stepOf tableLts
+      blocks-next = done .blocks-is ∙ sets-cong 256 _ _ (λ p q h l. by-rule (actionsOf t) .1 p q h l ∙ acted-blocks L few B Y N (s .related) (at .steady .during) free (actionsOf t) p q)
+
+      viewed-next : viewed′ ≡ setsOf 256 (stepOf L b s .viewed)
+      unfolding stepOf
+      viewed-next = view ∙ sets-cong 256 _ _ (λ p q h l. rw (in-members p h, in-inside q l, same-viewed p q h l))
+
+      -- K has no pair outside the states, before and after the step
+      after : (g h : ℕ) → T (stepOf L b s .related g h) → g < n
+      unfolding stepOf tableLts
+      after g h e = at .steady .during (actionsOf t) .source e
+
+      before : (g h : ℕ) → T (s .related g h) → g < n
+      unfolding relationsOf
+      before g h e = held-inside n related g h e .0
+
+      untrue : (x : Bool) → (T x → ⊥) → x ≡ false
+      untrue false f = refl
+      untrue true f = absurd (f tt)
+
+      module _ {final : List ℕ} (touch : final ≡ rowOf 4 (λ q. (inRow members q || inRow touched q) && inRow all q)) where
+        final-in : (g : ℕ) → g < 256 → inRow final g ≡ (inRow members g || inRow touched g) && inRow all g
+        final-in g h = set-in _ touch g h
+
+        -- a state outside what was touched was touched by no action, or is none of the table
+        outs : (g : ℕ) → g < 256 → inRow final g ≡ false → ((inRow members g ≡ false) × (inRow touched g ≡ false)) ⊎ (n ≤ g)
+        outs g h e = ⊎-elim (λ (l : g < n). inl (neither _ _ (sym (and-true _) ∙ ap (λ (x : Bool). (inRow members g || inRow touched g) && x) (sym (all-in g l)) ∙ sym (final-in g h) ∙ e))) (λ (l : n ≤ g). inr l) (lt-or-ge g n)
+
+        related-kept : (g h : ℕ) → g < 256 → h < 256 → inRow final g ≡ false → setAt related′ g h ≡ setAt related g h
+        related-kept g h u v e = ⊎-elim (λ o. done .untouched .related-same g h u v (o .1))
+            (λ (l : n ≤ g). sets-in 256 _ related-next g h u v ∙ untrue _ (λ x. absurd (omega (arith, l, after g h x))) ∙ sym (same-related g h u v ∙ untrue _ (λ x. absurd (omega (arith, l, before g h x))))) (outs g u e)
+
+        blocks-kept : (g h : ℕ) → g < 256 → h < 256 → inRow final g ≡ false → setAt blocks′ g h ≡ setAt blocks g h
+        blocks-kept g h u v e = ⊎-elim (λ o. done .untouched .blocks-same g h u v (o .1))
+            (λ (l : n ≤ g). sets-in 256 _ blocks-next g h u v ∙ untrue _ (λ x. absurd (omega (arith, l, after g h (block-iff (stepOf L b s .related) g h .0 x .0))))
+            ∙ sym (same-blocks g h u v ∙ untrue _ (λ x. absurd (omega (arith, l, before g h (block-iff (s .related) g h .0 x .0)))))) (outs g u e)
+
+        viewed-kept : (g h : ℕ) → g < 256 → h < 256 → inRow final g ≡ false → setAt viewed′ g h ≡ setAt viewed g h
+        viewed-kept g h u v e = ⊎-elim (λ o. sets-in 256 _ view g h u v ∙ ap (λ (x : Bool). cond x (inRow inside h) (setAt viewed g h)) (o .0))
+            (λ (l : n ≤ g). sets-in 256 _ view g h u v ∙ ap (λ (x : Bool). cond x (inRow inside h) (setAt viewed g h)) (in-members g u ∙ untrue _ (λ x. absurd (omega (arith, l, inside-block g x))))) (outs g u e)
+          where
+            inside-block : (g : ℕ) → T (B g) → g < n
+            inside-block g x = before g b (block-iff (s .related) b g .0 x .1)
+
+        loop : (g : ℕ) → g < n → T (stepOf L b s .related g g)
+        unfolding stepOf tableLts
+        loop g l = at .steady .during (actionsOf t) .loop l
+
+        pub step-made : Parted (setAt blocks′) (inRow shared) → Made t b shared related viewed blocks related′ viewed′ blocks′ final
+        step-made parts = record {
+          related-is = related-next;
+          viewed-is = viewed-next;
+          blocks-is = blocks-next;
+          untouched = record { related-same = related-kept; blocks-same = blocks-kept };
+          viewed-same = viewed-kept;
+          parts = parts;
+          owned = λ g u e.
+              let l = all-below g u (and-snd (inRow members g || inRow touched g) (inRow all g) (sym (final-in g u) ∙ e)) in
+              sets-in 256 _ blocks-next g g u u ∙ T-true _ (block-iff (stepOf L b s .related) g g .1 (loop g l, loop g l));
+        }

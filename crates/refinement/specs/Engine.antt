@@ -1,115 +1,126 @@
--- What the engine's own functions say of each other: relations held by matrices.
-use Prim.Native.Nat.{ℕ, zero, suc, _*_, _<_}
+-- What the engine's own functions say of each other: relations held by lists of 256 sets.
+use Prim.Native.Nat.{ℕ, zero, suc, _^_, _≤_, _<_}
 use mathlib.Core.Logic.{_⊎_}
 use mathlib.Core.Path.{_≡_}
-use mathlib.Core.Bool.{true, false, not, _&&_, _||_}
+use mathlib.Core.Bool.{Bool, true, false, cond, not, _&&_, _||_}
 use mathlib.Core.List.{List}
-use lib.Dec.{T}
-use lib.ListN.{length, getD}
-use Rattle.lts.specs.Bounded.{restrict, anyBelow, countBelow}
-use Rattle.lts.specs.System.{Set, Rel, Lts}
-use Rattle.lts.specs.Refinement.{Relations, block, refine, eachAction, stepOf}
+use lib.Dec.{T, ltb}
+use lib.ListN.{getD}
+use Rattle.lts.specs.Bounded.{restrict, anyBelow}
+use Rattle.lts.specs.System.{Set, Rel, Lts, into}
+use Rattle.lts.specs.Refinement.{Relations, block, remove, refine, eachAction, stepOf}
 use Rattle.lts.proofs.Refine.{Blocks}
 use Rattle.lts.proofs.Run.{Reached}
-use Rattle.transitions.specs.Table.{statesOf, countOf, tableLts}
-use Rattle.transitions.specs.Filling.{actionSet}
-use Rattle.predecessors.specs.Sources.{Keyed, Fits, Linked, Chains, keysInto}
-use Rattle.splitting.specs.Split.{splitBlocks, refinedRelated, Parted}
-use Rattle.rows.specs.Rows.{inRow, rowOf}
-use Rattle.relation.specs.Matrix.{relationOf, matrixOf, Matrix}
+use Rattle.transitions.specs.Table.{statesOf, actionsOf, tableLts}
+use Rattle.rows.specs.Rows.{bit, inRow, rowOf}
+use Rattle.relation.specs.Matrix.{relationOf, Matrix}
+use Rattle.sets.specs.Sets.{setAt, setsOf}
+use Rattle.sets.specs.Parts.{Parted, Owned}
+use Rattle.adjacency.specs.Adjacency.{Index}
+use Rattle.splitting.specs.Split.{splitBlocks, refinedRelated}
 
--- the relations that the matrices of K and V hold
+-- the relations that the lists of K and V hold
 unfoldable pub heldBy : ℕ → List ℕ → Rel
-heldBy n g = restrict n (relationOf n g)
+heldBy n g = restrict n (setAt g)
 
 unfoldable pub relationsOf : ℕ → List ℕ → List ℕ → Relations
 relationsOf n related viewed = record { related = heldBy n related; viewed = heldBy n viewed }
 
--- the step of b's block, in the system of the table t, on what the matrices hold
+-- the step of b's block, in the system of the table t, on what the lists hold
 abbrev pub stepped : List ℕ → ℕ → List ℕ → List ℕ → Relations
 stepped t b related viewed = stepOf (tableLts t) b (relationsOf (statesOf t) related viewed)
 
--- K and its blocks after the actions 1 to j by rows, from the sets Rem and "into B" of every action
+-- K and its blocks after the actions 1 to j by rows, from Rem and the hits of each action
 pub record Refined : Type 0 where
   pub related : Rel
   pub blocks : Rel
 
-unfoldable pub actionsTo : ℕ → List ℕ → List ℕ → ℕ → Refined → Refined
-actionsTo n removed members zero r = r
-actionsTo n removed members (suc j) r =
-    let s = actionsTo n removed members j r in
-    let Rem = actionSet removed (suc j) in
-    record { related = refinedRelated n Rem (actionSet members (suc j)) (s .related) (s .blocks); blocks = splitBlocks Rem (s .blocks) }
+unfoldable pub actionsTo : (ℕ → Set) → (ℕ → Set) → ℕ → Refined → Refined
+actionsTo Rem Hits zero r = r
+actionsTo Rem Hits (suc j) r =
+    let s = actionsTo Rem Hits j r in
+    record { related = refinedRelated 256 (Rem (suc j)) (Hits (suc j)) (s .related) (s .blocks); blocks = splitBlocks (Rem (suc j)) (s .blocks) }
 
-abbrev pub acted : ℕ → List ℕ → List ℕ → ℕ → List ℕ → List ℕ → Refined
-acted n removed members j related blocks =
-    actionsTo n removed members j (record { related = relationOf n related; blocks = relationOf n blocks })
+abbrev pub acted : (ℕ → Set) → (ℕ → Set) → ℕ → List ℕ → List ℕ → Refined
+acted Rem Hits j related blocks = actionsTo Rem Hits j (record { related = setAt related; blocks = setAt blocks })
 
--- K without the pairs of `rows` and Rem
-abbrev pub without : Set → Set → Rel → Rel
-without rows Rem K g h = K g h && not (rows g && Rem h)
+-- Rem and the hits of each action in the system of the table t
+abbrev pub removedBy : List ℕ → Set → Set → ℕ → Set
+removedBy t Y N a = remove (tableLts t) a Y N
 
--- `rows` are the states outside Rem whose block has a hit
-abbrev pub HitRows : ℕ → Set → Set → Rel → Set → Type 0
-HitRows n Rem Hits P rows = (g : ℕ) → g < n → rows g ≡ anyBelow n (λ x. P g x && Hits x) && not (Rem g)
+abbrev pub hitsBy : List ℕ → Set → ℕ → Set
+hitsBy t B a = into (tableLts t) a B
 
--- After a part of a step K and its blocks have, at each state outside `touched`, the rows that they had before it; `touched` has grown.
-pub record Untouched (n : ℕ) (related blocks touched related′ blocks′ touched′ : List ℕ) : Type 0 where
-  pub long : length touched′ ≡ 4
-  pub grows : (g : ℕ) → g < n → inRow touched′ g ≡ false → inRow touched g ≡ false
-  pub related-same : (g h : ℕ) → g < n → h < n → inRow touched′ g ≡ false → relationOf n related′ g h ≡ relationOf n related g h
-  pub blocks-same : (g h : ℕ) → g < n → h < n → inRow touched′ g ≡ false → relationOf n blocks′ g h ≡ relationOf n blocks g h
+-- an action changes nothing: Rem is empty, or there is no hit and no state shares its block
+abbrev pub Idle : Set → Set → Set → Type 0
+Idle Rem Hits shared = ((q : ℕ) → q < 256 → Rem q ≡ false) ⊎ (((q : ℕ) → q < 256 → Hits q ≡ false) × ((q : ℕ) → q < 256 → shared q ≡ false))
 
--- After a step K, V and the blocks have, at each state outside `touched`, the rows that they had before it.
-pub record Unmoved (n : ℕ) (touched related viewed blocks related′ viewed′ blocks′ : List ℕ) : Type 0 where
-  pub related-same : (g h : ℕ) → g < n → h < n → inRow touched g ≡ false → relationOf n related′ g h ≡ relationOf n related g h
-  pub viewed-same : (g h : ℕ) → g < n → h < n → inRow touched g ≡ false → relationOf n viewed′ g h ≡ relationOf n viewed g h
-  pub blocks-same : (g h : ℕ) → g < n → h < n → inRow touched g ≡ false → relationOf n blocks′ g h ≡ relationOf n blocks g h
+-- What is fixed for a step: the index of the table, and B, Y and N. `whole` says that Y and N have every state. `actions` has bit a - 1 for each action a
+-- that may change something.
+pub record Fixed (t places rows : List ℕ) (actions : ℕ) (B Y N shared : Set) (whole : Bool) : Type 0 where
+  pub index : Index t places rows
+  pub small : actions < 2 ^ 64
+  pub covers : whole ≡ true → (q : ℕ) → q < statesOf t → Y q || N q ≡ true
+  pub no-more : (j : ℕ) → actionsOf t ≤ j → j < 64 → bit actions j ≡ false
+  pub idle : (j : ℕ) → j < actionsOf t → bit actions j ≡ false → Idle (removedBy t Y N (suc j)) (hitsBy t B (suc j)) shared
 
--- added are the keys of the transitions into `outside`, or all where `seen` has n states
-abbrev pub OutsideAdded : ℕ → List ℕ → List ℕ → List ℕ → List ℕ → List ℕ → List ℕ → List ℕ → List ℕ → Type 0
-OutsideAdded n keys head link enabled seen outside out out′ =
-    ((countBelow (4 * 64) (inRow seen) ≡ n) × (out′ ≡ rowOf 260 (λ x. inRow out x || inRow enabled x)))
-    ⊎ ((k : ℕ) (targets : List ℕ) → Fits k keys targets → Linked 256 k targets head link → out′ ≡ rowOf 260 (λ x. inRow out x || keysInto k keys targets (inRow outside) x))
+-- what a step fixes at its beginning: the rows of B, Y and N, the actions to go through, and whether V has every state
+pub record Turning (rows all shared : List ℕ) (b : ℕ) (related viewed blocks members inside outside : List ℕ) (actions : ℕ) (whole : Bool) : Type 0 where
+  pub members-is : members ≡ rowOf 4 (setAt blocks b)
+  pub inside-is : inside ≡ rowOf 4 (setAt related b)
+  pub outside-is : outside ≡ rowOf 4 (λ q. setAt viewed b q && not (setAt related b q))
+  pub whole-is : whole ≡ true → (q : ℕ) → q < 256 → setAt viewed b q ≡ inRow all q
+  pub actions-is : actions ≡ cond (anyBelow 256 (inRow shared)) (getD rows 256 0) (getD rows b 0)
 
--- the keys of the transitions into `outside` of which none goes into `inside`, where these two have all targets if `seen` has n states
-abbrev pub RemovedBy : ℕ → List ℕ → List ℕ → List ℕ → List ℕ → List ℕ → List ℕ → List ℕ → List ℕ → List ℕ → List ℕ → List ℕ → Type 0
-RemovedBy n keys targets head link first next enabled seen outside inside r =
-    (k : ℕ) → Chains k keys targets head link first next → enabled ≡ rowOf 260 (keysInto k keys targets (λ t. true))
-    → (countBelow (4 * 64) (inRow seen) ≡ n → (i : ℕ) → i < k → inRow outside (getD targets i 0) || inRow inside (getD targets i 0) ≡ true)
-    → r ≡ rowOf 260 (λ x. keysInto k keys targets (inRow outside) x && not (keysInto k keys targets (inRow inside) x))
+-- each state of the table is in its own block
+abbrev pub Owning : List ℕ → List ℕ → Type 0
+Owning t blocks = (g : ℕ) → g < statesOf t → setAt blocks g g ≡ true
 
--- what a table's transitions are indexed by: their keys and targets, the chains through them, and the keys of all
-pub record Indexed (t keys targets head link first next enabled : List ℕ) : Type 0 where
-  pub keyed : Keyed t keys targets
-  pub chains : Chains (countOf t) keys targets head link first next
-  pub enabled-is : enabled ≡ rowOf 260 (keysInto (countOf t) keys targets (λ t. true))
+-- K and its blocks have, at each state outside `touched`, the rows that they had before
+pub record Untouched (related blocks related′ blocks′ touched : List ℕ) : Type 0 where
+  pub related-same : (g h : ℕ) → g < 256 → h < 256 → inRow touched g ≡ false → setAt related′ g h ≡ setAt related g h
+  pub blocks-same : (g h : ℕ) → g < 256 → h < 256 → inRow touched g ≡ false → setAt blocks′ g h ≡ setAt blocks g h
 
--- what the step of b's block begins with: matrices of K and V, the blocks of K, and a set with each state that shares a block
+-- what all actions of a step have made of K and its blocks
+pub record Done (t : List ℕ) (B Y N : Set) (related blocks related′ blocks′ touched : List ℕ) : Type 0 where
+  pub related-is : related′ ≡ setsOf 256 (acted (removedBy t Y N) (hitsBy t B) (actionsOf t) related blocks .related)
+  pub blocks-is : blocks′ ≡ setsOf 256 (acted (removedBy t Y N) (hitsBy t B) (actionsOf t) related blocks .blocks)
+  pub untouched : Untouched related blocks related′ blocks′ touched
+
+-- what the step of b's block begins with: the lists of K and V, the blocks of K, and a set with each state that shares a block
 pub record Before (n b : ℕ) (related viewed blocks shared : List ℕ) : Type 0 where
   pub low : b < n
-  pub related-formed : Matrix n related
-  pub viewed-formed : Matrix n viewed
-  pub blocks-is : blocks ≡ matrixOf n (block (relationOf n related))
-  pub parts : Parted n (relationOf n blocks) (inRow shared)
+  pub related-is : related ≡ setsOf 256 (heldBy n related)
+  pub viewed-is : viewed ≡ setsOf 256 (heldBy n viewed)
+  pub blocks-is : blocks ≡ setsOf 256 (block (heldBy n related))
+  pub parts : Parted (setAt blocks) (inRow shared)
 
 -- K has blocks after each action of the step of p's block
 pub record Steady (L : Lts) (p : ℕ) (s : Relations) : Type 0 where
   pub during : (j : ℕ) → Blocks (λ g. g < L .states) (λ g h. T (eachAction j (refine L (block (s .related) p) (s .related p) (λ q. s .viewed p q && not (s .related p q))) (s .related) g h))
 
--- what the step of b's block, in the system of the table t, has made of the matrices, and the states at which a row can have changed
-pub record Made (t : List ℕ) (n b : ℕ) (shared related viewed blocks related′ viewed′ blocks′ touched : List ℕ) : Type 0 where
-  pub related-is : related′ ≡ matrixOf n (stepped t b related viewed .related)
-  pub viewed-is : viewed′ ≡ matrixOf n (stepped t b related viewed .viewed)
-  pub blocks-is : blocks′ ≡ matrixOf n (block (stepped t b related viewed .related))
-  pub unmoved : Unmoved n touched related viewed blocks related′ viewed′ blocks′
-  pub parts : Parted n (relationOf n blocks′) (inRow shared)
+-- what a step has, for the table t: its index, the set of all states, and what it begins with
+pub record Stepping (t places rows all : List ℕ) (b : ℕ) (related viewed blocks shared : List ℕ) : Type 0 where
+  pub index : Index t places rows
+  pub all-is : all ≡ rowOf 4 (λ q. ltb q (statesOf t))
+  pub begun : Before (statesOf t) b related viewed blocks shared
+  pub steady : Steady (tableLts t) b (relationsOf (statesOf t) related viewed)
 
--- Where the engine's loop stands after some steps: the matrices of K, V and the blocks of K hold what the run has reached.
+-- what the step of b's block, in the system of the table t, has made of the lists, and the states at which a row can have changed
+pub record Made (t : List ℕ) (b : ℕ) (shared related viewed blocks related′ viewed′ blocks′ touched : List ℕ) : Type 0 where
+  pub related-is : related′ ≡ setsOf 256 (stepped t b related viewed .related)
+  pub viewed-is : viewed′ ≡ setsOf 256 (stepped t b related viewed .viewed)
+  pub blocks-is : blocks′ ≡ setsOf 256 (block (stepped t b related viewed .related))
+  pub untouched : Untouched related blocks related′ blocks′ touched
+  pub viewed-same : (g h : ℕ) → g < 256 → h < 256 → inRow touched g ≡ false → setAt viewed′ g h ≡ setAt viewed g h
+  pub parts : Parted (setAt blocks′) (inRow shared)
+  pub owned : Owned (setAt blocks′) (inRow touched)
+
+-- Where the engine's loop stands after some steps: the lists of K, V and the blocks of K hold what the run has reached.
 pub record State (L : Lts) (start : Rel) (schedule : List ℕ) (steps : ℕ) (related viewed blocks : List ℕ) : Type 0 where
-  pub related-is : related ≡ matrixOf (L .states) (heldBy (L .states) related)
-  pub viewed-is : viewed ≡ matrixOf (L .states) (heldBy (L .states) viewed)
-  pub blocks-is : blocks ≡ matrixOf (L .states) (block (heldBy (L .states) related))
+  pub related-is : related ≡ setsOf 256 (heldBy (L .states) related)
+  pub viewed-is : viewed ≡ setsOf 256 (heldBy (L .states) viewed)
+  pub blocks-is : blocks ≡ setsOf 256 (block (heldBy (L .states) related))
   pub reached : Reached L start schedule steps (relationsOf (L .states) related viewed)
 
 -- a matrix that is a preorder

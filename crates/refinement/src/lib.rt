@@ -1,270 +1,354 @@
-// The refinement engine (document 01, "Turns") on a transition table: the relations K and V and the blocks of K are bit matrices, and a
-// refinement step works on their words.
+// The refinement engine (document 01, "Turns") on a transition table: the relations K and V and the blocks of K are lists of 256 sets of four words, and a
+// refinement step works on whole sets.
 ghost use mathlib.Core.Path.{_≡_};
-ghost use mathlib.Core.Bool.{true, false};
+ghost use mathlib.Core.Bool.{true, false, cond, not, _&&_, _||_};
 ghost use mathlib.Core.List.{List};
-ghost use Prim.Native.Nat.{ℕ, _*_, _<_, _≤_};
-ghost use lib.ListN.{length, replicate};
-ghost use Rattle.lts.specs.Refinement.{block, coarsest};
-ghost use Rattle.rows.specs.Rows.{inRow, rowWords};
-ghost use Rattle.relation.specs.Matrix.{relationOf, matrixOf, Matrix};
-ghost use Rattle.transitions.specs.Table.{statesOf, tableLts, Formed};
-ghost use Rattle.transitions.specs.Filling.{actionSet};
-ghost use Rattle.predecessors.specs.Sources.{IntoStates, Chains};
-ghost use Rattle.splitting.specs.Split.{splitRelated, splitBlocks, refinedRelated, Equivalence, Parted};
-ghost use Rattle.refinement.specs.Engine.{acted, relationsOf, Steady, Start, Untouched, without, HitRows};
-ghost use Rattle.refinement.specs.Engine.{OutsideAdded, RemovedBy, Indexed, Before, Made};
+ghost use Prim.Native.Nat.{ℕ, _+_, _*_, _<_, _≤_};
+ghost use lib.Dec.{eqb, ltb};
+ghost use lib.ListN.{length, getD};
+ghost use Rattle.lts.specs.Bounded.{_⇒_, anyBelow, allBelow};
+ghost use Rattle.lts.specs.System.{into};
+ghost use Rattle.lts.specs.Refinement.{block, initial, remove, coarsest};
+ghost use Rattle.rows.specs.Rows.{inRow, rowOf, rowWords};
+ghost use Rattle.relation.specs.Matrix.{relationOf, matrixOf};
+ghost use Rattle.sets.specs.Sets.{setAt, setsOf};
+ghost use Rattle.sets.specs.Parts.{Parted};
+ghost use Rattle.transitions.specs.Table.{statesOf, actionsOf, countOf, sourceAt, actionAt, tableLts, Formed};
+ghost use Rattle.adjacency.specs.Adjacency.{Index};
+ghost use Rattle.splitting.specs.Split.{Acted};
+ghost use Rattle.refinement.specs.Engine.{Turning, Fixed, Owning, Done, Stepping, Made, State, Start};
 
-// The rows of K that Rem is pruned from: those of the blocks with a hit. A hit is not in Rem, so the split leaves them in one block.
-fn hit_rows(n: usize, rem: &[u64; 4], hits: &[u64], blocks: &[u64]) -> [u64; 4]
-    requires { ⌜ (n ≤ 256) × Matrix n (now blocks) × (4 ≤ length (now hits)) × Equivalence n (relationOf n (now blocks)) ⌝ }
-    ensures { λ r. ⌜ HitRows n (inRow (now (rem .entry))) (inRow (now (hits .entry))) (relationOf n (now (blocks .entry))) (inRow r) ⌝ }
+// What a step fixes at its beginning: B, Y and N, the actions to go through (bit a - 1 for action a), and whether Y and N have every state and Y few.
+pub struct Turn {
+    pub members: [u64; 4],
+    pub inside: [u64; 4],
+    pub outside: [u64; 4],
+    pub actions: u64,
+    pub whole: bool,
+}
+
+// One action of a step: Rem, and what it splits and refutes. Gives the states whose rows can have changed.
+fn refine_action(
+    places: &[u16],
+    rows: &[u64],
+    a: usize,
+    turn: Turn,
+    shared: [u64; 4],
+    related: &mut [u64],
+    blocks: &mut [u64],
+) -> [u64; 4]
+    requires { ⌜ (length (now related) ≡ 1024) × (length (now blocks) ≡ 1024) × Parted (setAt (now blocks)) (inRow shared)
+        × ((t : List ℕ) × Index t (now places) (now rows) × (1 ≤ a) × (a ≤ actionsOf t) × Owning t (now blocks)) ⌝ }
+    ensures { λ r. ⌜ ((t : List ℕ) → Index t (now (places .entry)) (now (rows .entry)) → a ≤ actionsOf t
+        → (turn .whole ≡ true → (q : ℕ) → q < statesOf t → inRow (turn .inside) q || inRow (turn .outside) q ≡ true)
+        → Acted (remove (tableLts t) a (inRow (turn .inside)) (inRow (turn .outside))) (into (tableLts t) a (inRow (turn .members)))
+        (now (related .entry)) (now (blocks .entry)) (now (related .exit)) (now (blocks .exit)) r) ⌝ }
+    ensures { λ _. ⌜ Parted (setAt (now (blocks .exit))) (inRow shared) ⌝ }
 {
-    if !rows::row_any(hits, 4) {
+    let inside = turn.inside;
+    let outside = turn.outside;
+    let rem = adjacency::removed(places, rows, a, inside, outside, turn.whole);
+    if !sets::any(rem) {
         return [0u64; 4];
     }
-    let mut rows = splitting::meeting_rows(blocks, n, hits);
-    rows::row_minus(&mut rows, rem, 4);
-    rows
+    let members = turn.members;
+    let hits = adjacency::sources_into(places, rows, a, members);
+    splitting::refine_by(rem, hits, shared, related, blocks)
 }
 
-// Drops Rem from the rows of K that have a hit. Adds them to `touched`.
-fn prune_by(n: usize, rem: &[u64; 4], hit: &[u64; 4], related: &mut [u64], touched: &mut [u64])
-    requires { ⌜ (n ≤ 256) × Matrix n (now related) × (length (now touched) ≡ 4) ⌝ }
-    ensures { λ _. ⌜ now (related .exit)
-        ≡ matrixOf n (without (inRow (now (hit .entry))) (inRow (now (rem .entry))) (relationOf n (now (related .entry)))) ⌝ }
-    ensures { λ _. ⌜ ((blocks : List ℕ)
-        → Untouched n (now (related .entry)) blocks (now (touched .entry)) (now (related .exit)) blocks (now (touched .exit))) ⌝ }
-{
-    if rows::row_any(hit, 4) {
-        splitting::remove_from(related, n, rem, hit);
-        rows::row_union(touched, hit, 4);
-    }
-}
-
-// The split of K and of its blocks by Rem, where K has no pair into Rem in a row of `hit`. Adds the rows that it can change to `touched`.
-fn split_by(
-    n: usize,
-    rem: &[u64; 4],
-    shared: &[u64; 4],
-    hit: &[u64; 4],
-    related: &mut [u64],
-    blocks: &mut [u64],
-    touched: &mut [u64],
-)
-    requires { ⌜ (n ≤ 256) × Matrix n (now related) × Matrix n (now blocks) × Parted n (relationOf n (now blocks)) (inRow (now shared))
-        × (length (now touched) ≡ 4) ⌝ }
-    requires { ⌜ ((g h : ℕ) → g < n → h < n → inRow (now hit) g ≡ true → relationOf n (now related) g h ≡ true → inRow (now rem) h ≡ false) ⌝ }
-    ensures { λ _. ⌜ now (related .exit)
-        ≡ matrixOf n (splitRelated (inRow (now (rem .entry))) (relationOf n (now (related .entry))) (relationOf n (now (blocks .entry)))) ⌝ }
-    ensures { λ _. ⌜ now (blocks .exit) ≡ matrixOf n (splitBlocks (inRow (now (rem .entry))) (relationOf n (now (blocks .entry)))) ⌝ }
-    ensures { λ _. ⌜ Untouched n (now (related .entry)) (now (blocks .entry)) (now (touched .entry))
-        (now (related .exit)) (now (blocks .exit)) (now (touched .exit)) ⌝ }
-    ensures { λ _. ⌜ Parted n (relationOf n (now (blocks .exit))) (inRow (now (shared .entry))) ⌝ }
-{
-    let rows = splitting::split_rows(blocks, n, shared, rem);
-    if rows::row_any(&rows, 4) {
-        let mut rest = [0u64; 4];
-        rows::row_copy(&mut rest, &rows, 4);
-        rows::row_minus(&mut rest, hit, 4);
-        splitting::split_related(related, blocks, n, rem, &rest);
-        splitting::split_blocks(blocks, n, rem, &rows);
-        rows::row_union(touched, &rows, 4);
-    }
-}
-
-// One action of a step: Rem, the pairs that it refutes over the blocks with a hit, and the split of the blocks by it.
-fn refine_action(
-    n: usize,
-    a: usize,
-    removed: &[u64; 260],
-    members: &[u64; 260],
-    shared: &[u64; 4],
-    related: &mut [u64],
-    blocks: &mut [u64],
-    touched: &mut [u64],
-)
-    requires { ⌜ (n ≤ 256) × (a ≤ 64) × Matrix n (now related) × Matrix n (now blocks) × Parted n (relationOf n (now blocks)) (inRow (now shared))
-        × (length (now touched) ≡ 4) ⌝ }
-    requires { ⌜ ((x : ℕ) → x < n → actionSet (now members) a x ≡ true → actionSet (now removed) a x ≡ false) ⌝ }
-    ensures { λ _. ⌜ now (related .exit) ≡ matrixOf n (refinedRelated n (actionSet (now (removed .entry)) a) (actionSet (now (members .entry)) a)
-        (relationOf n (now (related .entry))) (relationOf n (now (blocks .entry)))) ⌝ }
-    ensures { λ _. ⌜ now (blocks .exit) ≡ matrixOf n (splitBlocks (actionSet (now (removed .entry)) a) (relationOf n (now (blocks .entry)))) ⌝ }
-    ensures { λ _. ⌜ Untouched n (now (related .entry)) (now (blocks .entry)) (now (touched .entry))
-        (now (related .exit)) (now (blocks .exit)) (now (touched .exit)) ⌝ }
-    ensures { λ _. ⌜ Parted n (relationOf n (now (blocks .exit))) (inRow (now (shared .entry))) ⌝ }
-{
-    let rem = predecessors::action_set(removed, a);
-    if rows::row_any(&rem, 4) {
-        let hit = hit_rows(n, &rem, transitions::action_part(members, a), blocks);
-        prune_by(n, &rem, &hit, related, touched);
-        split_by(n, &rem, shared, &hit, related, blocks, touched);
-    }
-}
-
-// All actions of a step, ascending.
+// All actions of a step that may change something, ascending. Gives the states whose rows can have changed.
 fn refine_actions(
-    n: usize,
-    m: usize,
-    removed: &[u64; 260],
-    members: &[u64; 260],
-    shared: &[u64; 4],
+    places: &[u16],
+    rows: &[u64],
+    turn: Turn,
+    shared: [u64; 4],
     related: &mut [u64],
     blocks: &mut [u64],
-    touched: &mut [u64],
-)
-    requires { ⌜ (n ≤ 256) × (m ≤ 64) × Matrix n (now related) × Matrix n (now blocks) × Parted n (relationOf n (now blocks)) (inRow (now shared))
-        × (length (now touched) ≡ 4) ⌝ }
-    requires { ⌜ ((a x : ℕ) → a ≤ m → x < n → actionSet (now members) a x ≡ true → actionSet (now removed) a x ≡ false) ⌝ }
-    ensures { λ _. ⌜ now (related .exit)
-        ≡ matrixOf n (acted n (now (removed .entry)) (now (members .entry)) m (now (related .entry)) (now (blocks .entry)) .related) ⌝ }
-    ensures { λ _. ⌜ now (blocks .exit)
-        ≡ matrixOf n (acted n (now (removed .entry)) (now (members .entry)) m (now (related .entry)) (now (blocks .entry)) .blocks) ⌝ }
-    ensures { λ _. ⌜ Untouched n (now (related .entry)) (now (blocks .entry)) (now (touched .entry))
-        (now (related .exit)) (now (blocks .exit)) (now (touched .exit)) ⌝ }
-    ensures { λ _. ⌜ Parted n (relationOf n (now (blocks .exit))) (inRow (now (shared .entry))) ⌝ }
+) -> [u64; 4]
+    requires { ⌜ (length (now related) ≡ 1024) × (length (now blocks) ≡ 1024) × Parted (setAt (now blocks)) (inRow shared)
+        × ((t : List ℕ) × Owning t (now blocks) × Fixed t (now places) (now rows) (turn .actions)
+        (inRow (turn .members)) (inRow (turn .inside)) (inRow (turn .outside)) (inRow shared) (turn .whole)) ⌝ }
+    ensures { λ r. ⌜ ((t : List ℕ) → Owning t (now (blocks .entry)) → Fixed t (now (places .entry)) (now (rows .entry)) (turn .actions)
+        (inRow (turn .members)) (inRow (turn .inside)) (inRow (turn .outside)) (inRow shared) (turn .whole)
+        → Done t (inRow (turn .members)) (inRow (turn .inside)) (inRow (turn .outside))
+        (now (related .entry)) (now (blocks .entry)) (now (related .exit)) (now (blocks .exit)) r) ⌝ }
+    ensures { λ _. ⌜ Parted (setAt (now (blocks .exit))) (inRow shared) ⌝ }
 {
-    let mut a = 0;
-    while a < m {
-        refine_action(n, a + 1, removed, members, shared, related, blocks, touched);
-        a += 1;
+    let mut touched = [0u64; 4];
+    let mut left = turn.actions;
+    while left != 0 {
+        let a = u64::trailing_zeros(left) as usize + 1;
+        left = left & (left - 1);
+        let changed = refine_action(places, rows, a, turn, shared, related, blocks);
+        let next = sets::join(touched, changed);
+        touched = next;
     }
+    touched
 }
 
-// Adds the keys of the transitions into N or, where V has all states, of all: they make the same Rem.
-fn add_outside(
-    n: usize,
-    keys: &[u16; 1024],
-    head: &[u16; 256],
-    link: &[u16; 1024],
-    enabled: &[u64; 260],
-    seen: &[u64; 4],
-    outside: &[u64; 4],
-    out: &mut [u64],
-)
-    requires { ⌜ IntoStates (now keys) (now head) (now link) × (length (now out) ≡ 260) ⌝ }
-    ensures { λ _. ⌜ OutsideAdded n (now (keys .entry)) (now (head .entry)) (now (link .entry)) (now (enabled .entry))
-        (now (seen .entry)) (now (outside .entry)) (now (out .entry)) (now (out .exit)) ⌝ }
+// Whether V has every state and Y at most half of them.
+fn is_whole(seen: [u64; 4], all: [u64; 4], inside: [u64; 4]) -> bool
+    ensures { λ r. ⌜ (r ≡ true → (q : ℕ) → q < 256 → inRow seen q ≡ inRow all q) ⌝ }
 {
-    if rows::row_count(seen, 4) == n {
-        rows::row_union(out, enabled, 260);
-        return;
+    if sets::differ(seen, all) {
+        return false;
     }
-    predecessors::add_sources(keys, head, link, outside, out);
+    2 * rows::row_count(&inside, 4) <= rows::row_count(&all, 4)
 }
 
-// Writes Rem of every action, as keys. Where N is small each transition into it is held to Y, and else the sources into Y are taken
-// from those into N.
-fn write_removed(
-    n: usize,
-    keys: &[u16; 1024],
-    targets: &[u16; 1024],
-    head: &[u16; 256],
-    link: &[u16; 1024],
-    first: &[u16; 16640],
-    next: &[u16; 1024],
-    enabled: &[u64; 260],
-    seen: &[u64; 4],
-    outside: &[u64; 4],
-    inside: &[u64; 4],
-    out: &mut [u64],
-)
-    requires { ⌜ ((k : ℕ) × Chains k (now keys) (now targets) (now head) (now link) (now first) (now next)) × (now out ≡ replicate 260 0) ⌝ }
-    ensures { λ _. ⌜ RemovedBy n (now (keys .entry)) (now (targets .entry)) (now (head .entry)) (now (link .entry)) (now (first .entry))
-        (now (next .entry)) (now (enabled .entry)) (now (seen .entry)) (now (outside .entry)) (now (inside .entry)) (now (out .exit)) ⌝ }
+// The actions to go through: those with a transition or, where no two states share a block, with one into b.
+fn actions_of(rows: &[u64], shared: [u64; 4], b: usize) -> u64
+    requires { ⌜ (b < 256) × (260 ≤ length (now rows)) ⌝ }
+    ensures { λ r. ⌜ r ≡ cond (anyBelow 256 (inRow shared)) (getD (now (rows .entry)) 256 0) (getD (now (rows .entry)) b 0) ⌝ }
 {
-    if 4 * rows::row_count(outside, 4) <= rows::row_count(inside, 4) + 16 {
-        predecessors::add_removed(keys, targets, head, link, first, next, outside, inside, out);
-        return;
+    if sets::any(shared) {
+        return adjacency::actions_into(rows, 256);
     }
-    let mut into_inside = [0u64; 260];
-    predecessors::add_sources(keys, head, link, inside, &mut into_inside);
-    add_outside(n, keys, head, link, enabled, seen, outside, out);
-    rows::row_minus(out, &into_inside, 260);
+    adjacency::actions_into(rows, b)
+}
+
+// What the step of the block of b fixes.
+fn turn_of(
+    rows: &[u64],
+    all: [u64; 4],
+    shared: [u64; 4],
+    b: usize,
+    related: &[u64],
+    viewed: &[u64],
+    blocks: &[u64],
+) -> Turn
+    requires { ⌜ (b < 256) × (260 ≤ length (now rows)) × (length (now related) ≡ 1024) × (length (now viewed) ≡ 1024) × (length (now blocks) ≡ 1024) ⌝ }
+    ensures { λ r. ⌜ Turning (now (rows .entry)) all shared b (now (related .entry)) (now (viewed .entry)) (now (blocks .entry))
+        (r .members) (r .inside) (r .outside) (r .actions) (r .whole) ⌝ }
+{
+    let inside = sets::at(related, b);
+    let seen = sets::at(viewed, b);
+    let members = sets::at(blocks, b);
+    let outside = sets::minus(seen, inside);
+    let actions = actions_of(rows, shared, b);
+    let whole = is_whole(seen, all, inside);
+    Turn {
+        members: members,
+        inside: inside,
+        outside: outside,
+        actions: actions,
+        whole: whole,
+    }
 }
 
 // The refinement step of the block of b. Gives the states at which a row of K, V or the blocks can have changed.
 fn refine_step(
-    table: &transitions::Table,
-    keys: &[u16; 1024],
-    targets: &[u16; 1024],
-    head: &[u16; 256],
-    link: &[u16; 1024],
-    first: &[u16; 16640],
-    next: &[u16; 1024],
-    enabled: &[u64; 260],
-    shared: &[u64; 4],
+    places: &[u16],
+    rows: &[u64],
+    all: [u64; 4],
+    shared: [u64; 4],
     b: usize,
     related: &mut [u64],
     viewed: &mut [u64],
     blocks: &mut [u64],
 ) -> [u64; 4]
-    requires { ⌜ Formed (now table)
-        × Indexed (now table) (now keys) (now targets) (now head) (now link) (now first) (now next) (now enabled) ⌝ }
-    requires { ⌜ Before (statesOf (now table)) b (now related) (now viewed) (now blocks) (now shared) ⌝ }
-    requires { ⌜ Steady (tableLts (now table)) b (relationsOf (statesOf (now table)) (now related) (now viewed)) ⌝ }
-    ensures { λ r. ⌜ Made (now (table .entry)) (statesOf (now (table .entry))) b (now (shared .entry))
-        (now (related .entry)) (now (viewed .entry)) (now (blocks .entry)) (now (related .exit)) (now (viewed .exit)) (now (blocks .exit)) r ⌝ }
+    requires { ⌜ ((t : List ℕ) × Stepping t (now places) (now rows) all b (now related) (now viewed) (now blocks) shared) ⌝ }
+    ensures { λ r. ⌜ ((t : List ℕ)
+        → Stepping t (now (places .entry)) (now (rows .entry)) all b (now (related .entry)) (now (viewed .entry)) (now (blocks .entry)) shared
+        → Made t b shared (now (related .entry)) (now (viewed .entry)) (now (blocks .entry))
+        (now (related .exit)) (now (viewed .exit)) (now (blocks .exit)) r) ⌝ }
 {
-    let n = transitions::states(table);
-    let members = relation::row_set(blocks, n, b);
-    let inside = relation::row_set(related, n, b);
-    let seen = relation::row_set(viewed, n, b);
-    let mut outside = relation::row_set(viewed, n, b);
-    rows::row_minus(&mut outside, &inside, 4);
-    relation::set_rows(viewed, n, &members, &inside);
-    let mut removed = [0u64; 260];
-    write_removed(
-        n,
-        keys,
-        targets,
-        head,
-        link,
-        first,
-        next,
-        enabled,
-        &seen,
-        &outside,
-        &inside,
-        &mut removed,
-    );
-    let mut into_members = [0u64; 260];
-    predecessors::add_sources(keys, head, link, &members, &mut into_members);
-    let mut touched = relation::row_set(blocks, n, b);
-    refine_actions(
-        n,
-        transitions::actions(table),
-        &removed,
-        &into_members,
-        shared,
-        related,
-        blocks,
-        &mut touched,
-    );
-    touched
+    let turn = turn_of(rows, all, shared, b, related, viewed, blocks);
+    let members = turn.members;
+    let inside = turn.inside;
+    partition::set_rows(viewed, members, inside);
+    let touched = refine_actions(places, rows, turn, shared, related, blocks);
+    sets::meet(sets::join(members, touched), all)
 }
 
-// Takes the states of `rows` that are alone in their block out of `shared`.
-fn drop_single(blocks: &[u64], n: usize, rows: &[u64; 4], shared: &mut [u64])
-    requires { ⌜ (n ≤ 256) × Matrix n (now blocks) × (length (now shared) ≡ 4) × Parted n (relationOf n (now blocks)) (inRow (now shared)) ⌝ }
-    ensures { λ _. ⌜ Parted n (relationOf n (now (blocks .entry))) (inRow (now (shared .exit))) ⌝ }
-{
-    let alone = splitting::single_rows(blocks, n, rows);
-    rows::row_minus(shared, &alone, 4);
-}
-
-// The whole run: K, V and the blocks at its end, and the number of steps made.
-pub fn refine_all(
-    table: &transitions::Table,
-    start: &[u64],
+// The whole run, from K, V and the blocks at the beginning to those at its end; the number of steps made.
+fn run(
+    places: &[u16],
+    rows: &[u64],
+    all: [u64; 4],
     schedule: &[u16],
     related: &mut [u64],
     viewed: &mut [u64],
     blocks: &mut [u64],
 ) -> usize
+    requires { ⌜ ((t start : List ℕ) × Index t (now places) (now rows) × Start (statesOf t) start × (all ≡ rowOf 4 (λ q. ltb q (statesOf t)))
+        × State (tableLts t) (relationOf (statesOf t) start) (now schedule) 0 (now related) (now viewed) (now blocks)) ⌝ }
+    ensures { λ r. ⌜ ((t start : List ℕ) → Index t (now (places .entry)) (now (rows .entry)) → Start (statesOf t) start
+        → all ≡ rowOf 4 (λ q. ltb q (statesOf t))
+        → State (tableLts t) (relationOf (statesOf t) start) (now (schedule .entry)) 0 (now (related .entry)) (now (viewed .entry)) (now (blocks .entry))
+        → (let run = coarsest (tableLts t) (relationOf (statesOf t) start) (now (schedule .entry)) in
+        (r ≡ run .steps) × (now (related .exit) ≡ setsOf 256 (run .final .related)) × (now (blocks .exit) ≡ setsOf 256 (block (run .final .related))))) ⌝ }
+{
+    let alone = partition::single_rows(blocks, all);
+    let mut shared = sets::minus(all, alone);
+    let mut pending = [0u64; 4];
+    partition::update_pending(related, viewed, blocks, shared, all, &mut pending);
+    let mut steps = 0;
+    while sets::any(pending) {
+        let b = partition::next_block(&pending, schedule, steps);
+        let touched = refine_step(places, rows, all, shared, b, related, viewed, blocks);
+        let single = partition::single_rows(blocks, sets::meet(touched, shared));
+        let rest = sets::minus(shared, single);
+        shared = rest;
+        partition::update_pending(related, viewed, blocks, shared, touched, &mut pending);
+        steps += 1;
+    }
+    steps
+}
+
+// Takes out of each state's row what lacks a transition by an action that the state has one by.
+fn keep_enabled(table: &transitions::Table, rows: &[u64], related: &mut [u64])
+    requires { ⌜ (length (now related) ≡ 1024) × ((places : List ℕ) × Index (now table) places (now rows)) ⌝ }
+    ensures { λ _. ⌜ (let t = now (table .entry) in
+        now (related .exit) ≡ setsOf 256 (λ p q. setAt (now (related .entry)) p q
+        && allBelow (countOf t) (λ i. eqb (sourceAt t i) p ⇒ setAt (now (rows .entry)) (64 + 2 * actionAt t i) q))) ⌝ }
+{
+    let k = transitions::count(table);
+    let mut i = 0;
+    while i < k {
+        let p = transitions::source(table, i);
+        let able = adjacency::enabled(rows, transitions::action(table, i));
+        sets::put(related, p, sets::meet(sets::at(related, p), able));
+        i += 1;
+    }
+}
+
+// Writes K, V and the blocks of K at the beginning into empty lists.
+fn begin(
+    table: &transitions::Table,
+    rows: &[u64],
+    all: [u64; 4],
+    start: &[u64],
+    related: &mut [u64],
+    viewed: &mut [u64],
+    blocks: &mut [u64],
+)
+    requires { ⌜ Start (statesOf (now table)) (now start) × (all ≡ rowOf 4 (λ q. ltb q (statesOf (now table))))
+        × ((places : List ℕ) × Index (now table) places (now rows)) ⌝ }
+    requires { ⌜ (now related ≡ setsOf 256 (λ p q. false)) × (now viewed ≡ setsOf 256 (λ p q. false)) × (now blocks ≡ setsOf 256 (λ p q. false)) ⌝ }
+    ensures { λ _. ⌜ ((schedule : List ℕ) → let t = now (table .entry) in
+        State (tableLts t) (relationOf (statesOf t) (now (start .entry))) schedule 0 (now (related .exit)) (now (viewed .exit)) (now (blocks .exit))) ⌝ }
+{
+    let n = transitions::states(table);
+    sets::from_matrix(start, n, related);
+    keep_enabled(table, rows, related);
+    partition::set_rows(viewed, all, all);
+    partition::write_blocks(related, n, blocks);
+}
+
+// The whole run on a table: K and the blocks at its end as matrices, and the number of steps made. `places` and `rows` are empty.
+fn refine_in(
+    table: &transitions::Table,
+    start: &[u64],
+    schedule: &[u16],
+    related: &mut [u64],
+    blocks: &mut [u64],
+    places: &mut [u16],
+    rows: &mut [u64],
+) -> usize
     requires { ⌜ Formed (now table) × Start (statesOf (now table)) (now start) ⌝ }
     requires { ⌜ (let words = statesOf (now table) * rowWords (statesOf (now table)) in
-        (length (now related) ≡ words) × (length (now viewed) ≡ words) × (length (now blocks) ≡ words)) ⌝ }
+        (length (now related) ≡ words) × (length (now blocks) ≡ words)) ⌝ }
+    requires { ⌜ (512 * (actionsOf (now table) + 1) ≤ length (now places))
+        × ((66 + 2 * actionsOf (now table) + 2 * countOf (now table)) * 4 ≤ length (now rows)) ⌝ }
+    requires { ⌜ ((x : ℕ) → getD (now places) x 0 ≡ 0) × ((x : ℕ) → getD (now rows) x 0 ≡ 0) ⌝ }
+    ensures { λ r. ⌜ (let t = now (table .entry) in
+        let run = coarsest (tableLts t) (relationOf (statesOf t) (now (start .entry))) (now (schedule .entry)) in
+        (r ≡ run .steps) × (now (related .exit) ≡ matrixOf (statesOf t) (run .final .related))
+        × (now (blocks .exit) ≡ matrixOf (statesOf t) (block (run .final .related)))) ⌝ }
+{
+    let n = transitions::states(table);
+    let all = rows::states_below(n);
+    let mut kept = [0u64; 1024];
+    let mut viewed = [0u64; 1024];
+    let mut parts = [0u64; 1024];
+    adjacency::index_transitions(table, places, rows);
+    begin(table, rows, all, start, &mut kept, &mut viewed, &mut parts);
+    let steps = run(
+        places,
+        rows,
+        all,
+        schedule,
+        &mut kept,
+        &mut viewed,
+        &mut parts,
+    );
+    relation::copy_matrix(related, start);
+    sets::to_matrix(&kept, n, related);
+    relation::copy_matrix(blocks, start);
+    sets::to_matrix(&parts, n, blocks);
+    steps
+}
+
+// The run with room for every table.
+fn refine_large(
+    table: &transitions::Table,
+    start: &[u64],
+    schedule: &[u16],
+    related: &mut [u64],
+    blocks: &mut [u64],
+) -> usize
+    requires { ⌜ Formed (now table) × Start (statesOf (now table)) (now start) ⌝ }
+    requires { ⌜ (let words = statesOf (now table) * rowWords (statesOf (now table)) in
+        (length (now related) ≡ words) × (length (now blocks) ≡ words)) ⌝ }
+    ensures { λ r. ⌜ (let t = now (table .entry) in
+        let run = coarsest (tableLts t) (relationOf (statesOf t) (now (start .entry))) (now (schedule .entry)) in
+        (r ≡ run .steps) × (now (related .exit) ≡ matrixOf (statesOf t) (run .final .related))
+        × (now (blocks .exit) ≡ matrixOf (statesOf t) (block (run .final .related)))) ⌝ }
+{
+    let mut places = [0u16; 33280];
+    let mut rows = [0u64; 8968];
+    refine_in(
+        table,
+        start,
+        schedule,
+        related,
+        blocks,
+        &mut places,
+        &mut rows,
+    )
+}
+
+// The run on a table of at most 4 actions and 64 transitions: small arrays are cleared sooner.
+fn refine_small(
+    table: &transitions::Table,
+    start: &[u64],
+    schedule: &[u16],
+    related: &mut [u64],
+    blocks: &mut [u64],
+) -> usize
+    requires { ⌜ Formed (now table) × Start (statesOf (now table)) (now start) × (actionsOf (now table) ≤ 4) × (countOf (now table) ≤ 64) ⌝ }
+    requires { ⌜ (let words = statesOf (now table) * rowWords (statesOf (now table)) in
+        (length (now related) ≡ words) × (length (now blocks) ≡ words)) ⌝ }
+    ensures { λ r. ⌜ (let t = now (table .entry) in
+        let run = coarsest (tableLts t) (relationOf (statesOf t) (now (start .entry))) (now (schedule .entry)) in
+        (r ≡ run .steps) × (now (related .exit) ≡ matrixOf (statesOf t) (run .final .related))
+        × (now (blocks .exit) ≡ matrixOf (statesOf t) (block (run .final .related)))) ⌝ }
+{
+    let mut places = [0u16; 2560];
+    let mut rows = [0u64; 808];
+    refine_in(
+        table,
+        start,
+        schedule,
+        related,
+        blocks,
+        &mut places,
+        &mut rows,
+    )
+}
+
+// The whole run: K and the blocks at its end, and the number of steps made.
+pub fn refine_all(
+    table: &transitions::Table,
+    start: &[u64],
+    schedule: &[u16],
+    related: &mut [u64],
+    blocks: &mut [u64],
+) -> usize
+    requires { ⌜ Formed (now table) × Start (statesOf (now table)) (now start) ⌝ }
+    requires { ⌜ (let words = statesOf (now table) * rowWords (statesOf (now table)) in
+        (length (now related) ≡ words) × (length (now blocks) ≡ words)) ⌝ }
     ensures { λ r. ⌜ (let t = now (table .entry) in
         r ≡ coarsest (tableLts t) (relationOf (statesOf t) (now (start .entry))) (now (schedule .entry)) .steps) ⌝ }
     ensures { λ _. ⌜ (let t = now (table .entry) in
@@ -274,49 +358,8 @@ pub fn refine_all(
         let run = coarsest (tableLts t) (relationOf (statesOf t) (now (start .entry))) (now (schedule .entry)) in
         now (blocks .exit) ≡ matrixOf (statesOf t) (block (run .final .related))) ⌝ }
 {
-    let n = transitions::states(table);
-    let k = transitions::count(table);
-    let mut keys = [0u16; 1024];
-    let mut targets = [0u16; 1024];
-    let mut head = [0u16; 256];
-    let mut link = [0u16; 1024];
-    let mut first = [0u16; 16640];
-    let mut next = [0u16; 1024];
-    predecessors::write_keys(table, &mut keys, &mut targets);
-    predecessors::link_transitions(k, &targets, &mut head, &mut link);
-    predecessors::link_transitions(k, &keys, &mut first, &mut next);
-    let enabled = predecessors::enabled_sources(&keys, &head, &link);
-    predecessors::write_initial(table, &enabled, start, related);
-    relation::write_all_pairs(n, viewed);
-    partition::write_blocks(related, n, blocks);
-    let all = [18446744073709551615u64; 4];
-    let mut shared = [18446744073709551615u64; 4];
-    let mut pending = [0u64; 4];
-    drop_single(blocks, n, &all, &mut shared);
-    partition::update_pending(related, viewed, blocks, n, &all, &mut pending);
-    let mut steps = 0;
-    let mut c = partition::count_pending(&pending, n);
-    while 0 < c {
-        let b = partition::next_block(&pending, n, c, schedule, steps);
-        let touched = refine_step(
-            table,
-            &keys,
-            &targets,
-            &head,
-            &link,
-            &first,
-            &next,
-            &enabled,
-            &shared,
-            b,
-            related,
-            viewed,
-            blocks,
-        );
-        drop_single(blocks, n, &touched, &mut shared);
-        partition::update_pending(related, viewed, blocks, n, &touched, &mut pending);
-        steps += 1;
-        c = partition::count_pending(&pending, n);
+    if (transitions::actions(table) <= 4) & (transitions::count(table) <= 64) {
+        return refine_small(table, start, schedule, related, blocks);
     }
-    steps
+    refine_large(table, start, schedule, related, blocks)
 }

@@ -13,7 +13,7 @@ use lib.Seq.{getD-drop, getD-take, getD-append-add, length-take-le, take-at, dro
 use borrow.Rule.Slice.PartMut.{putMid}
 use borrow.Author.Tests.{eqb-true, lt-ltb, le-ltb, eq-eqb, ne-eqb}
 use Rattle.rows.specs.Rows.{bit, inRow, wordAt, rowOf, rowWords, statesBelow}
-use Rattle.relation.specs.Matrix.{inMatrix, relationOf, matrixWord, matrixOf, Matrix, setRow, rowsOf, withoutStates}
+use Rattle.relation.specs.Matrix.{inMatrix, relationOf, matrixWord, matrixOf, Matrix, setRow, rowsOf}
 use Rattle.lts.specs.Bounded.{listBelow}
 use Rattle.rows.proofs.Rows.{word-at, bit-wordAt, wordAt-lt, states-in, states-out, tail-part, tail-back}
 use Rattle.lts.proofs.Below.{lt-or-ge, length-listBelow, getD-listBelow, list-ext, listBelow-cong, listBelow-add}
@@ -279,24 +279,6 @@ row-zipped n p g β M none ok words hp {w} e ys last =
   where
     part : (q : ℕ) → inRow (take (length g - p * w) (drop (p * w) g)) q ≡ relationOf n g p q
     part q = ap (λ (k : ℕ). inRow (take (length g - p * k) (drop (p * k) g)) q) e ∙ inRow-part n p g q
-
-pub without-row : (p : ℕ) (M : ℕ → Bool) (R : ℕ → ℕ → Bool) (t q : ℕ) → setRow p (λ q. R p q && not (M q)) R t q ≡ withoutStates p M R t q
-without-row p M R t q = go (eqb t p) refl
-  where
-    keep : (b : Bool) → b ≡ b && true
-    keep true = refl
-    keep false = refl
-
-    go : (b : Bool) → eqb t p ≡ b → cond b (R p q && not (M q)) (R t q) ≡ R t q && not (b && M q)
-    go true e = ap (λ (k : ℕ). R k q && not (M q)) (sym (eqb-true t p e))
-    go false e = keep (R t q)
-
--- row p was lent so, and came back without the set M
-pub row-removed : (n p : ℕ) (g : List ℕ) (M : ℕ → Bool) → Matrix n g → Words g → p < n → {w : ℕ} → w ≡ rowWords n → (ys : List ℕ)
-    → ys ≡ rowOf w (λ q. inRow (take (length g - p * w) (drop (p * w) g)) q && not (M q)) ++ drop w (take (length g - p * w) (drop (p * w) g))
-    → putMid (p * w) (length g - p * w) g ys ≡ matrixOf n (withoutStates p M (relationOf n g))
-row-removed n p g M ok words hp e ys last =
-    row-zipped n p g (λ a b. a && not b) M (λ b. refl) ok words hp e ys last ∙ matrixOf-cong n _ _ (λ t q ht hq. without-row p M (relationOf n g) t q)
 
 -- the row p that was set, and any other
 pub set-here : (p : ℕ) (S : ℕ → Bool) (R : ℕ → ℕ → Bool) (q : ℕ) → setRow p S R p q ≡ S q

@@ -11,10 +11,10 @@ use borrow.Author.Tests.{le-ltb, lt-ltb}
 use Rattle.lts.specs.Bounded.{_⇒_}
 use Rattle.lts.specs.System.{Set, Rel}
 use Rattle.rows.specs.Rows.{inRow, rowOf, rowWords, statesBelow, Next}
-use Rattle.relation.specs.Matrix.{relationOf, matrixOf, Matrix, setRow, withoutStates, rowsOf}
+use Rattle.relation.specs.Matrix.{relationOf, matrixOf, Matrix, setRow, rowsOf}
 use Rattle.lts.proofs.Below.{lt-or-ge}
 use Rattle.rows.proofs.Rows.{set-words, rowOf-cong, inRow-of, inRow-written, states-in, states-out}
-use Rattle.relation.proofs.Matrices.{inRow-drop, row-long, matrixOf-cong, relation-of, set-here, set-other, without-row, done-more, done-none}
+use Rattle.relation.proofs.Matrices.{inRow-drop, row-long, matrixOf-cong, relation-of, set-here, set-other, done-more, done-none}
 
 -- row p of a matrix, copied into words that are 0
 pub copied-row : (n p : ℕ) (g row d : List ℕ) {w : ℕ} → w ≡ rowWords n → n ≤ 256 → Matrix n g → p < n → length d ≡ 4 → ((j : ℕ) → getD d j 0 ≡ 0)
@@ -68,22 +68,10 @@ module _ (n : ℕ) (N R : Rel) (g : ℕ) (l : List ℕ) (hg : g < n) (now : l �
   row-unchanged : (q : ℕ) → q < n → relationOf n l g q ≡ R g q
   row-unchanged q hq = relation-of n (rowsOf g N R) now g q hg hq ∙ ap (λ (b : Bool). cond b (N g q) (R g q)) (le-ltb g g (omega arith))
 
-  pub row-left : ((q : ℕ) → q < n → R g q ≡ N g q) → l ≡ matrixOf n (rowsOf (g + 1) N R)
-  row-left same = now ∙ done-more n N R g (rowsOf g N R) (λ t q ht hq ne. refl)
-      (λ q hq. ap (λ (b : Bool). cond b (N g q) (R g q)) (le-ltb g g (omega arith)) ∙ same q hq)
-
   pub row-set : (S : Set) → ((q : ℕ) → q < n → S q ≡ N g q) → matrixOf n (setRow g S (relationOf n l)) ≡ matrixOf n (rowsOf (g + 1) N R)
   row-set S same = done-more n N R g (setRow g S (relationOf n l))
       (λ t q ht hq ne. set-other g S (relationOf n l) t q ne ∙ relation-of n (rowsOf g N R) now t q ht hq)
       (λ q hq. set-here g S (relationOf n l) q ∙ same q hq)
-
-  pub row-kept : (M : Set) → ((q : ℕ) → q < n → R g q && M q ≡ N g q)
-      → matrixOf n (setRow g (λ q. relationOf n l g q && M q) (relationOf n l)) ≡ matrixOf n (rowsOf (g + 1) N R)
-  row-kept M same = row-set (λ q. relationOf n l g q && M q) (λ q hq. ap (λ (b : Bool). b && M q) (row-unchanged q hq) ∙ same q hq)
-
-  pub row-without : (M : Set) → ((q : ℕ) → q < n → R g q && not (M q) ≡ N g q)
-      → matrixOf n (withoutStates g M (relationOf n l)) ≡ matrixOf n (rowsOf (g + 1) N R)
-  row-without M same = sym (matrixOf-cong n _ _ (λ t q ht hq. without-row g M (relationOf n l) t q)) ∙ row-kept (λ q. not (M q)) same
 
 -- ---- rows of all states, and the rows of the members
 

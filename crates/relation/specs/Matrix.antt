@@ -37,10 +37,6 @@ pairCount n R = sumBelow n (λ p. countBelow n (R p))
 abbrev pub setRow : ℕ → Set → Rel → Rel
 setRow p S R t q = cond (eqb t p) (S q) (R t q)
 
--- R without (p, q) for each q of M
-abbrev pub withoutStates : ℕ → Set → Rel → Rel
-withoutStates p M R t q = R t q && not (eqb t p && M q)
-
 -- R with the rows of N in place of its first p rows
 abbrev pub rowsOf : ℕ → Rel → Rel → Rel
 rowsOf p N R t q = cond (ltb t p) (N t q) (R t q)

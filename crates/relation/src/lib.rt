@@ -6,7 +6,7 @@ ghost use lib.ListN.{length, drop};
 ghost use Rattle.lts.specs.Bounded.{_⇒_};
 ghost use Rattle.lts.specs.Rule.{check};
 ghost use Rattle.rows.specs.Rows.{inRow, rowOf, rowWords, statesBelow, Row};
-ghost use Rattle.relation.specs.Matrix.{inMatrix, matrixOf, relationOf, Matrix, pairCount, setRow, withoutStates};
+ghost use Rattle.relation.specs.Matrix.{inMatrix, matrixOf, relationOf, Matrix, pairCount, setRow};
 ghost use Rattle.relation.specs.Check.{reflexiveBelow, transitivePair, transitiveAt, transitiveBelow, clearAt, isMatrix, startRules};
 ghost use Rattle.relation.specs.Tested.{Left};
 
@@ -114,27 +114,6 @@ pub fn keep_states(grid: &mut [u64], n: usize, p: usize, mask: &[u64])
     let w = rows::row_words(n);
     let at = p * w;
     rows::row_intersect(&mut grid[at..], mask, w);
-}
-
-// Takes the states of `mask` out of row p.
-pub fn remove_states(grid: &mut [u64], n: usize, p: usize, mask: &[u64])
-    requires { ⌜ Matrix n (now grid) × (n ≤ 256) × (p < n) × (rowWords n ≤ length (now mask)) ⌝ }
-    ensures { λ _. ⌜ now (grid .exit) ≡ matrixOf n (withoutStates p (inRow (now (mask .entry))) (relationOf n (now (grid .entry)))) ⌝ }
-{
-    let w = rows::row_words(n);
-    let at = p * w;
-    rows::row_minus(&mut grid[at..], mask, w);
-}
-
-// Takes what a and b have in common out of row p.
-pub fn remove_common(grid: &mut [u64], n: usize, p: usize, a: &[u64], b: &[u64])
-    requires { ⌜ Matrix n (now grid) × (n ≤ 256) × (p < n) × (rowWords n ≤ length (now a)) × (rowWords n ≤ length (now b)) ⌝ }
-    ensures { λ _. ⌜ (let R = relationOf n (now (grid .entry)) in
-        now (grid .exit) ≡ matrixOf n (withoutStates p (λ q. inRow (now (a .entry)) q && inRow (now (b .entry)) q) R)) ⌝ }
-{
-    let w = rows::row_words(n);
-    let at = p * w;
-    rows::row_minus_common(&mut grid[at..], a, b, w);
 }
 
 // Whether row p has no bit at q ≥ n.

@@ -136,19 +136,6 @@ pub fn row_minus(row: &mut [u64], mask: &[u64], k: usize)
     }
 }
 
-// Takes what a and b have in common out of the row's first k words.
-pub fn row_minus_common(row: &mut [u64], a: &[u64], b: &[u64], k: usize)
-    requires { ⌜ (k ≤ length (now row)) × (k ≤ length (now a)) × (k ≤ length (now b)) ⌝ }
-    ensures { λ _. ⌜ (let old = now (row .entry) in
-        now (row .exit) ≡ rowOf k (λ q. inRow old q && not (inRow (now (a .entry)) q && inRow (now (b .entry)) q)) ++ drop k old) ⌝ }
-{
-    let mut c = 0;
-    while c < k {
-        row[c] = row[c] & !(a[c] & b[c]);
-        c += 1;
-    }
-}
-
 // Adds the states of `mask` to the row's first k words.
 pub fn row_union(row: &mut [u64], mask: &[u64], k: usize)
     requires { ⌜ (k ≤ length (now row)) × (k ≤ length (now mask)) ⌝ }
@@ -159,21 +146,6 @@ pub fn row_union(row: &mut [u64], mask: &[u64], k: usize)
         row[c] = row[c] | mask[c];
         c += 1;
     }
-}
-
-// Whether the row has a state in its first k words.
-pub fn row_any(row: &[u64], k: usize) -> bool
-    requires { ⌜ k ≤ length (now row) ⌝ }
-    ensures { λ r. ⌜ r ≡ anyBelow (k * 64) (inRow (now (row .entry))) ⌝ }
-{
-    let mut c = 0;
-    while c < k {
-        if row[c] != 0 {
-            return true;
-        }
-        c += 1;
-    }
-    false
 }
 
 // Whether the first k words of a and b hold different states.

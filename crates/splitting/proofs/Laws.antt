@@ -101,7 +101,8 @@ SameSet n A B = (q : ℕ) → q < n → A q ≡ B q
 abbrev pub SameRel : ℕ → Rel → Rel → Type 0
 SameRel n R S = (p q : ℕ) → p < n → q < n → R p q ≡ S p q
 
-pub split-cong : (n : ℕ) {Rem Rem′ : Set} {K K′ P P′ : Rel} → SameSet n Rem Rem′ → SameRel n K K′ → SameRel n P P′ → SameRel n (splitRelated Rem K P) (splitRelated Rem′ K′ P′)
+pub split-cong : (n : ℕ) {Rem Rem′ : Set} {K K′ P P′ : Rel} → SameSet n Rem Rem′ → SameRel n K K′ → SameRel n P P′
+    → SameRel n (splitRelated Rem K P) (splitRelated Rem′ K′ P′)
 unfolding splitRelated
 split-cong n r k p g h hg hh = ap₂ (λ (a b : Bool). a && not b) (k g h hg hh) (ap₂ _&&_ (ap₂ (λ (a b : Bool). a && not b) (p g h hg hh) (r g hg)) (r h hh))
 

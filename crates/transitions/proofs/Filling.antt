@@ -1,24 +1,31 @@
 -- How a table is filled: what is written grows by target, by action and by state. Assumes nothing.
-use Prim.Native.Nat.{ℕ, zero, suc, _+_, _*_, _≤_, _<_}
+use Prim.Native.Nat.{ℕ, zero, suc, _+_, _-_, _*_, _/_, _%_, _^_, _≤_, _<_}
 use mathlib.Core.Path.{_≡_, refl, sym, ap, _∙_, subst}
-use mathlib.Core.Bool.{Bool, true, false, cond}
-use mathlib.Core.List.{List, [], _∷_, _++_}
+use mathlib.Core.Bool.{Bool, true, false, cond, _&&_}
+use mathlib.Core.List.{List, [], _∷_, _++_, append-nil}
+use mathlib.Core.Logic.{⊎-elim}
 use native.Mathlib.Omega.{arith}
-use native.Mathlib.Nat.{not-suc-le-zero, le-refl, zero-add}
+use native.Mathlib.Nat.{not-suc-le-zero, le-refl, zero-add, le-of-suc-le-suc, le-step, eq-or-lt-of-le}
 use native.Mathlib.Numerals.{add-one}
 use native.Mathlib.Decide.{ℕ-discrete}
 use lib.ListN.{length, getD, set, drop, length-set, length-append, replicate, length-replicate}
 use lib.Seq.{getD-set-same, getD-set-other}
+use lib.Dec.{eqb, ltb}
+use lib.Bits.{bitAnd}
+use lib.Count.{trailingZeros}
+use borrow.Author.Tests.{eq-eqb, ne-eqb, lt-ltb, le-ltb}
 use Rattle.lts.specs.Bounded.{passing, concatBelow}
 use Rattle.lts.specs.System.{Lts}
 use Rattle.lts.specs.Transitions.{Transition, transitionsTo, transitionsBy, transitionsOf, transitionsBelow}
 use Rattle.lts.proofs.Count.{passing-shorter}
-use Rattle.lts.proofs.Lists.{passing-none, passing-more, passing-room, concat-more, concat-grows}
+use Rattle.lts.proofs.Below.{lt-or-ge, length-listBelow}
+use Rattle.lts.proofs.Lists.{passing-none, passing-same, passing-more, passing-room, concat-more, concat-grows}
 use Rattle.lts.proofs.Transitions.{to-none, to-more, to-length, up-none, up-more, up-grows}
-use Rattle.rows.specs.Rows.{inRow, Next}
-use Rattle.rows.proofs.Rows.{part-in, getD-zeros}
+use Rattle.rows.specs.Rows.{bit, inRow, rowOf, Next}
+use Rattle.rows.proofs.Rows.{part-in, getD-zeros, inRow-of, inRow-zeros, rowOf-cong}
+use Rattle.sets.proofs.Walks.{Rest, Stepped, rest-begin, rest-next, rest-end}
 use Rattle.transitions.specs.Table.{markAt, offsetAt, entryAt, tableTransitions}
-use Rattle.transitions.specs.Filling.{actionSet, rowTransitions, withTransition, withState, Extends, Filling}
+use Rattle.transitions.specs.Filling.{actionSet, rowTransitions, withTransition, withState, Covers, Extends, Filling}
 use Rattle.transitions.proofs.Writes.{extends-none, extends-one, extends-append, table-same}
 
 -- ---- by target
@@ -75,6 +82,20 @@ module _ {f : ℕ → Bool} {p a i : ℕ} {t₀ : List ℕ} {at q : ℕ} {t : Li
 
 -- ---- by action
 
+-- from n on the lists are empty
+pub concat-shorter {ℓ} : {A : Type ℓ} (n m : ℕ) (f : ℕ → List A) → n ≤ m → ((i : ℕ) → n ≤ i → i < m → f i ≡ []) → concatBelow m f ≡ concatBelow n f
+unfolding concatBelow
+concat-shorter n zero f h none = let e : 0 ≡ n = omega arith in ap (λ (k : ℕ). concatBelow k f) e
+concat-shorter {A = A} n (suc m) f h none =
+    ⊎-elim (λ (e : n ≡ suc m). ap (λ (k : ℕ). concatBelow k f) (sym e))
+    (λ (l : n < suc m). ap (λ (x : List A). concatBelow m f ++ x) (none m (le-of-suc-le-suc l) (le-refl (suc m))) ∙ append-nil (concatBelow m f)
+    ∙ concat-shorter n m f (le-of-suc-le-suc l) (λ i a b. none i a (le-step b)))
+    (eq-or-lt-of-le h)
+
+-- an action without a target
+pub to-empty : (p a n : ℕ) (f : ℕ → Bool) → ((t : ℕ) → t < n → f t ≡ false) → transitionsTo p a (passing n f) ≡ []
+to-empty p a n f none = ap (transitionsTo p a) (passing-shorter 0 n f (omega arith) (λ t l u. none t u)) ∙ to-none p a f
+
 module _ (sets : List ℕ) (p : ℕ) where
   pub row-none : rowTransitions sets p 0 ≡ []
   unfolding rowTransitions concatBelow
@@ -102,6 +123,122 @@ module _ (sets : List ℕ) (p : ℕ) where
   pub row-extends : (i a at : ℕ) {t₀ t₁ t₂ : List ℕ} → at ≡ i + length (rowTransitions sets p a) → Extends (rowTransitions sets p a) i t₀ t₁
       → Extends (transitionsTo p (a + 1) (passing 256 (actionSet sets (a + 1)))) at t₁ t₂ → Extends (rowTransitions sets p (a + 1)) i t₀ t₂
   row-extends i a at e f g = rw row-more (extends-append i _ _ f (rw e at g))
+
+  -- the actions from i on and below j have no target
+  pub row-skip : (i j : ℕ) → i ≤ j → ((a t : ℕ) → i ≤ a → a < j → t < 256 → actionSet sets (suc a) t ≡ false)
+      → rowTransitions sets p j ≡ rowTransitions sets p i
+  unfolding rowTransitions
+  row-skip i j l none = concat-shorter i j _ l (λ a u v. to-empty p (suc a) 256 _ (λ t w. none a t u v w))
+
+-- ---- by the bits of a mask
+
+-- the actions up to `done` are written and their sets emptied, and `left` has the mask's bits from there on
+pub record Emptying (sets₀ : List ℕ) (used p i : ℕ) (t₀ : List ℕ) (left at : ℕ) (t sets : List ℕ) : Type 0 where
+  pub done : ℕ
+  pub rest : Rest used done left
+  pub place : at ≡ i + length (rowTransitions sets₀ p done)
+  pub wrote : Extends (rowTransitions sets₀ p done) i t₀ t
+  pub held : sets ≡ rowOf 260 (λ x. ltb done (x / 256) && inRow sets₀ x)
+
+module _ (sets₀ : List ℕ) {used : ℕ} (c : Covers used (inRow sets₀)) where
+  pub emptying-start : {p i : ℕ} {t₀ : List ℕ} → used < 2 ^ 64 → sets₀ ≡ rowOf 260 (inRow sets₀) → Emptying sets₀ used p i t₀ used i t₀ sets₀
+  emptying-start {p} {i} {t₀} small words = record {
+    done = 0;
+    rest = rest-begin used small;
+    place = rw row-none (omega arith);
+    wrote = rw row-none (extends-none i t₀);
+    held = words ∙ rowOf-cong 260 _ _ (λ x u. ⊎-elim (low x u) (high x) (lt-or-ge x 256));
+  }
+    where
+      low : (x : ℕ) → x < 16640 → x < 256 → inRow sets₀ x ≡ ltb 0 (x / 256) && inRow sets₀ x
+      low x u l = c .none x u (λ k. absurd (omega (arith, k, l))) ∙ sym (ap (λ (b : Bool). b && inRow sets₀ x) (le-ltb 0 (x / 256) (omega (arith, l))))
+
+      high : (x : ℕ) → 256 ≤ x → inRow sets₀ x ≡ ltb 0 (x / 256) && inRow sets₀ x
+      high x l = sym (ap (λ (b : Bool). b && inRow sets₀ x) (lt-ltb 0 (x / 256) (omega (arith, l))))
+
+  -- the mask has no bit from k on and below j
+  module _ (k j : ℕ) (none : (a : ℕ) → k ≤ a → a < j → bit used a ≡ false) where
+    unmasked : (p : ℕ) → k ≤ j → j ≤ 64 → rowTransitions sets₀ p j ≡ rowTransitions sets₀ p k
+    unmasked p l m = row-skip sets₀ p k j l (λ a t u v w.
+        let place : (256 * suc a + t) / 256 - 1 ≡ a = omega (arith, w) in
+        c .none (256 * suc a + t) (omega (arith, v, w, m)) (λ y. ap (bit used) place ∙ none a u v))
+
+    unheld : (x : ℕ) → x < 16640 → x / 256 ≤ j → ltb k (x / 256) && inRow sets₀ x ≡ false
+    unheld x u l =
+        ⊎-elim (λ (v : k < x / 256). ap (λ (b : Bool). b && inRow sets₀ x) (lt-ltb k (x / 256) v)
+        ∙ c .none x u (λ y. none (x / 256 - 1) (omega (arith, v)) (omega (arith, v, l))))
+        (λ (v : x / 256 ≤ k). ap (λ (b : Bool). b && inRow sets₀ x) (le-ltb k (x / 256) v)) (lt-or-ge k (x / 256))
+
+  module _ {p i : ℕ} {t₀ : List ℕ} {left at : ℕ} {t sets : List ℕ} (g : Emptying sets₀ used p i t₀ left at t sets) where
+    pub emptying-long : length sets ≡ 260
+    emptying-long = ap length (g .held) ∙ length-listBelow 260 _
+
+    was : (x : ℕ) → x < 16640 → inRow sets x ≡ ltb (g .done) (x / 256) && inRow sets₀ x
+    was x u = ap (λ (l : List ℕ). inRow l x) (g .held) ∙ inRow-of 260 _ x u
+
+    module _ (ne : left ≡ 0 → ⊥) where
+      abbrev q : ℕ
+      q = trailingZeros 64 left
+
+      step : Stepped used (g .done) left q
+      step = rest-next used (g .done) left (g .rest) ne
+
+      pub emptying-below : q < 64
+      emptying-below = step .below
+
+      -- nothing stands between
+      between : rowTransitions sets₀ p q ≡ rowTransitions sets₀ p (g .done)
+      between = unmasked (g .done) q (step .none) p (step .above) (omega (arith, step .below))
+
+      reached : at ≡ i + length (rowTransitions sets₀ p q)
+      reached = g .place ∙ ap (λ (vs : List Transition). i + length vs) (sym between)
+
+      same : passing 256 (actionSet sets (q + 1)) ≡ passing 256 (actionSet sets₀ (q + 1))
+      same = passing-same 256 _ _ (λ u l. was (256 * (q + 1) + u) (omega (arith, step .below, l))
+          ∙ ap (λ (b : Bool). b && actionSet sets₀ (q + 1) u) (lt-ltb (g .done) ((256 * (q + 1) + u) / 256) (omega (arith, step .above, l))))
+
+      pub emptying-room : at + length (passing 256 (actionSet sets (q + 1))) ≤ i + length (rowTransitions sets₀ p 64)
+      emptying-room = omega (arith, row-room sets₀ p i 64 q at (step .below) reached, ap length same)
+
+      pub emptying-more : {r : ℕ} {t′ sets′ : List ℕ} → r ≡ at + length (passing 256 (actionSet sets (q + 1)))
+          → Extends (transitionsTo p (q + 1) (passing 256 (actionSet sets (q + 1)))) at t t′
+          → sets′ ≡ rowOf (length sets) (λ x. cond (eqb (x / 256) (q + 1)) (inRow (replicate 4 0) (x % 256)) (inRow sets x))
+          → Emptying sets₀ used p i t₀ (bitAnd left (left - 1)) r t′ sets′
+      emptying-more {r} {t′} {sets′} e w n = record {
+        done = q + 1;
+        rest = step .rest;
+        place = row-place sets₀ p i q at reached (e ∙ ap (λ (vs : List ℕ). at + length vs) same);
+        wrote = row-extends sets₀ p i q at reached (subst (λ (vs : List Transition). Extends vs i t₀ t) (sym between) (g .wrote))
+            (subst (λ (vs : List ℕ). Extends (transitionsTo p (q + 1) vs) at t t′) same w);
+        held = n ∙ ap (λ (k : ℕ). rowOf k (λ x. cond (eqb (x / 256) (q + 1)) (inRow (replicate 4 0) (x % 256)) (inRow sets x))) emptying-long
+            ∙ rowOf-cong 260 _ _ (λ x u. go x u (ℕ-discrete (x / 256) (q + 1)));
+      }
+        where
+          go : (x : ℕ) → x < 16640 → Dec (x / 256 ≡ q + 1)
+              → cond (eqb (x / 256) (q + 1)) (inRow (replicate 4 0) (x % 256)) (inRow sets x) ≡ ltb (q + 1) (x / 256) && inRow sets₀ x
+          go x u (yes d) =
+              ap (λ (b : Bool). cond b (inRow (replicate 4 0) (x % 256)) (inRow sets x)) (eq-eqb (x / 256) (q + 1) d) ∙ inRow-zeros 4 (x % 256)
+              ∙ sym (ap (λ (b : Bool). b && inRow sets₀ x) (le-ltb (q + 1) (x / 256) (omega (arith, d))))
+          go x u (no d) =
+              ap (λ (b : Bool). cond b (inRow (replicate 4 0) (x % 256)) (inRow sets x)) (ne-eqb (x / 256) (q + 1) d) ∙ was x u
+              ∙ ⊎-elim (λ (l : q + 1 < x / 256). ap (λ (b : Bool). b && inRow sets₀ x)
+              (lt-ltb (g .done) (x / 256) (omega (arith, step .above, l)) ∙ sym (lt-ltb (q + 1) (x / 256) l)))
+              (λ (l : x / 256 ≤ q + 1). unheld (g .done) q (step .none) x u (omega (arith, l, d))
+              ∙ sym (ap (λ (b : Bool). b && inRow sets₀ x) (le-ltb (q + 1) (x / 256) l)))
+              (lt-or-ge (q + 1) (x / 256))
+
+    module _ (e : left ≡ 0) where
+      all : rowTransitions sets₀ p 64 ≡ rowTransitions sets₀ p (g .done)
+      all = unmasked (g .done) 64 (rest-end used (g .done) left (g .rest) e) p (g .rest .place) (omega arith)
+
+      pub emptying-done : (at ≡ i + length (rowTransitions sets₀ p 64)) × (Extends (rowTransitions sets₀ p 64) i t₀ t × (sets ≡ rowOf 260 (λ x. false)))
+      emptying-done = (
+        g .place ∙ ap (λ (vs : List Transition). i + length vs) (sym all),
+        (
+          subst (λ (vs : List Transition). Extends vs i t₀ t) (sym all) (g .wrote),
+          g .held ∙ rowOf-cong 260 _ _ (λ x u. unheld (g .done) 64 (rest-end used (g .done) left (g .rest) e) x u (omega (arith, u))),
+        ),
+      )
 
 -- ---- by state
 

@@ -5,6 +5,7 @@ use mathlib.Core.Bool.{Bool, true, false, cond}
 use mathlib.Core.List.{List}
 use mathlib.Core.Logic.{⊎-elim}
 use native.Mathlib.Omega.{arith}
+use lib.Dec.{T}
 use lib.ListN.{length, getD, replicate}
 use Rattle.lts.specs.Bounded.{passing, concatBelow}
 use Rattle.lts.specs.System.{Lts, WellFormed}
@@ -30,7 +31,7 @@ use Rattle.transitions.specs.Maps.{stateTo, actionTo, Raises, Within}
 use Rattle.transitions.specs.Filling.{actionSet, rowTransitions, withState, withCounts, Extends, Filling}
 use Rattle.transitions.specs.Loading.{rowImage, markImage, Image, Images, Loading}
 use Rattle.transitions.proofs.Links.{Keeps}
-use Rattle.transitions.proofs.Filling.{filling-start, filling-room, filling-more, state-offset}
+use Rattle.transitions.proofs.Filling.{concat-shorter, to-empty, filling-start, filling-room, filling-more, state-offset}
 use Rattle.transitions.proofs.Filled.{filled}
 use Rattle.transitions.proofs.Images.{row-is, mark-is}
 
@@ -41,6 +42,7 @@ module _ {L : Lts} {s : List ℕ} {h : Header} {maps : List ℕ} {m i : ℕ} {t 
   loading-within = record {
     state = λ p l. let k = g .sends .state p (omega (arith, l, lts-states s h (g .readable .header))) in omega (arith, k, g .few);
     action = λ a l k. let z = g .sends .action a l (omega (arith, k, lts-actions s h (g .readable .header))) .1 in omega (arith, z, g .last, g .labels);
+    named = λ a l k. g .sends .action a l (omega (arith, k, lts-actions s h (g .readable .header))) .0;
   }
 
   -- the numbers that are used
@@ -54,12 +56,21 @@ module _ {L : Lts} {s : List ℕ} {h : Header} {maps : List ℕ} {m i : ℕ} {t 
     abbrev M : Lts
     M = mapped (L .states) (L .actions) (stateTo maps) (actionTo maps) (ltsOf s)
 
-    -- L's row leads to states of L alone
+    -- L's row leads to states of L alone, by actions of L alone
+    not-there : (a j : ℕ) → (T (M .transition i a j) → ⊥) → L .transition i a j ≡ false
+    not-there a j f = im .step a j ∙ ⊎-elim (λ (x : M .transition i a j ≡ true). absurd (f (true-T _ x))) (λ x. x) (either (M .transition i a j))
+
     far : (a j : ℕ) → L .states ≤ j → L .transition i a j ≡ false
     unfolding mapped
     far a j l =
         let wf = mapped-formed (well-formed s h (g .readable)) (g .sends) in
-        im .step a j ∙ ⊎-elim (λ (x : M .transition i a j ≡ true). absurd (let z = wf .target i a j (true-T _ x) in omega (arith, z, l))) (λ x. x) (either (M .transition i a j))
+        not-there a j (λ x. let z = wf .target i a j x in omega (arith, z, l))
+
+    unnamed : (a j : ℕ) → L .actions < a → L .transition i a j ≡ false
+    unfolding mapped
+    unnamed a j l =
+        let wf = mapped-formed (well-formed s h (g .readable)) (g .sends) in
+        not-there a j (λ x. let z = wf .action i a j x .1 in omega (arith, z, l))
 
     module _ {sets : List ℕ} (e : sets ≡ rowOf 260 (rowImage maps s h i)) where
       held-is : (a j : ℕ) → a ≤ 64 → j < 256 → actionSet sets a j ≡ L .transition i a j
@@ -72,17 +83,18 @@ module _ {L : Lts} {s : List ℕ} {h : Header} {maps : List ℕ} {m i : ℕ} {t 
           passing-shorter (L .states) 256 (actionSet sets a) (g .few) (λ j u v. held-is a j k v ∙ far a j u)
           ∙ passing-same (L .states) _ _ (λ j u. held-is a j k (omega (arith, u, g .few)))
 
-      row : rowTransitions sets i m ≡ transitionsOf L i
+      row : rowTransitions sets i 64 ≡ transitionsOf L i
       unfolding rowTransitions transitionsOf transitionsBy
       row =
-          concat-same m _ _ (λ a u. ap (transitionsTo i (suc a)) (by-target (suc a) (omega (arith, u, g .labels))))
+          concat-same 64 _ _ (λ a u. ap (transitionsTo i (suc a)) (by-target (suc a) u))
+          ∙ concat-shorter m 64 _ (g .labels) (λ a u v. to-empty i (suc a) (L .states) _ (λ j w. unnamed (suc a) j (omega (arith, u, g .last))))
           ∙ ap (λ (x : ℕ). concatBelow x (λ a. transitionsTo i (suc a) (passing (L .states) (L .transition i (suc a))))) (g .last)
 
-      pub loading-room : offsetAt t i + length (rowTransitions sets i m) ≤ 1024
+      pub loading-room : offsetAt t i + length (rowTransitions sets i 64) ≤ 1024
       loading-room = filling-room (g .filling) row (im .below) (g .size)
 
-      pub loading-more : {u : List ℕ} {r x : ℕ} → r ≡ offsetAt t i + length (rowTransitions sets i m)
-          → Extends (rowTransitions sets i m) (offsetAt t i) t u → x ≡ cond (markImage maps s h i) 1 0 → Loading L s h maps m (i + 1) (withState u i x r)
+      pub loading-more : {u : List ℕ} {r x : ℕ} → r ≡ offsetAt t i + length (rowTransitions sets i 64)
+          → Extends (rowTransitions sets i 64) (offsetAt t i) t u → x ≡ cond (markImage maps s h i) 1 0 → Loading L s h maps m (i + 1) (withState u i x r)
       loading-more {u} {r} {x} k w is = record {
         readable = g .readable;
         sends = g .sends;

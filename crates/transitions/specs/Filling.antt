@@ -1,13 +1,13 @@
 -- What the functions that fill a table say of each other.
-use Prim.Native.Nat.{ℕ, suc, _+_, _*_, _≤_, _<_}
+use Prim.Native.Nat.{ℕ, suc, _+_, _-_, _*_, _/_, _≤_, _<_}
 use mathlib.Core.Path.{_≡_}
-use mathlib.Core.Bool.{Bool, cond}
+use mathlib.Core.Bool.{Bool, false, cond}
 use mathlib.Core.List.{List, _++_}
 use lib.ListN.{length, getD, set}
 use Rattle.lts.specs.Bounded.{passing, concatBelow}
-use Rattle.lts.specs.System.{Lts}
+use Rattle.lts.specs.System.{Set, Lts}
 use Rattle.lts.specs.Transitions.{Transition, transitionsTo, transitionsBelow}
-use Rattle.rows.specs.Rows.{inRow}
+use Rattle.rows.specs.Rows.{bit, inRow}
 use Rattle.transitions.specs.Table.{tableTransitions, markAt, offsetAt}
 
 -- in a row that holds a set of 256 states for each action from 0 to 64: the set of action a
@@ -17,6 +17,10 @@ actionSet sets a q = inRow sets (256 * a + q)
 -- the transitions of state p by the actions 1 to m whose targets such a row holds
 unfoldable pub rowTransitions : List ℕ → ℕ → ℕ → List Transition
 rowTransitions sets p m = concatBelow m (λ a. transitionsTo p (suc a) (passing 256 (actionSet sets (suc a))))
+
+-- such a row's members S are all by actions of a mask, which has bit a - 1 for action a
+pub record Covers (used : ℕ) (S : Set) : Type 0 where
+  pub none : (x : ℕ) → x < 16640 → (256 ≤ x → bit used (x / 256 - 1) ≡ false) → S x ≡ false
 
 -- t with p, a, q for its transition number i; with a state's mark, and the end of its row; with its counts
 abbrev pub withTransition : List ℕ → ℕ → ℕ → ℕ → ℕ → List ℕ

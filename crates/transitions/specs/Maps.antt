@@ -21,10 +21,11 @@ pub record Raises (n m shift : ℕ) (to maps : List ℕ) : Type 0 where
   pub state : (p : ℕ) → p < n → stateTo maps p ≡ shift + p
   pub action : (a : ℕ) → 1 ≤ a → a ≤ m → actionTo maps a ≡ getD to a 0
 
--- the states and actions of a sheet with the header h go to states below 256 and to actions up to 64
+-- the states and actions of a sheet with the header h go to states below 256 and to actions from 1 to 64
 pub record Within (h : Header) (maps : List ℕ) : Type 0 where
   pub state : (p : ℕ) → p < h .states → stateTo maps p < 256
   pub action : (a : ℕ) → 1 ≤ a → a ≤ h .actions → actionTo maps a ≤ 64
+  pub named : (a : ℕ) → 1 ≤ a → a ≤ h .actions → 1 ≤ actionTo maps a
 
 -- the states below n that go to state i
 unfoldable pub goesTo : ℕ → List ℕ → ℕ → Set

@@ -1,6 +1,6 @@
 // Transition tables: a system in one array, filled from a sheet, and the lookups in it. The crates above work on tables and on no sheet.
 ghost use mathlib.Core.Path.{_≡_};
-ghost use mathlib.Core.Bool.{cond, _||_};
+ghost use mathlib.Core.Bool.{false, cond, _||_};
 ghost use mathlib.Core.List.{List};
 ghost use Prim.Native.Nat.{ℕ, _+_, _*_, _<_, _≤_};
 ghost use lib.ListN.{length, getD, drop};
@@ -15,7 +15,7 @@ ghost use Rattle.encoding.specs.Denotation.{ltsOf};
 ghost use Rattle.transitions.specs.Table.{statesOf, actionsOf, countOf, markAt, offsetAt, sourceAt, actionAt, targetAt};
 ghost use Rattle.transitions.specs.Table.{enters, tableLts, Formed, Holds};
 ghost use Rattle.transitions.specs.Maps.{stateTo, actionTo, Raises, Within, Linked, firstTo, nextTo};
-ghost use Rattle.transitions.specs.Filling.{actionSet, rowTransitions, withTransition, withState, withCounts, Extends};
+ghost use Rattle.transitions.specs.Filling.{actionSet, rowTransitions, withTransition, withState, withCounts, Covers, Extends};
 ghost use Rattle.transitions.specs.Loading.{chainImage, rowImage, markImage, Image, Images, Loading};
 
 pub type Table = [u16; 3588];
@@ -157,18 +157,22 @@ fn put_action(table: &mut Table, p: usize, a: usize, sets: &[u64; 260], from: us
     at
 }
 
-// Writes the transitions of state p by the actions 1 to m, which the sets hold, from number `from` on; the number after them.
-fn put_row(table: &mut Table, p: usize, m: usize, sets: &[u64; 260], from: usize) -> usize
-    requires { ⌜ (p < 256) × (m ≤ 64) × (length (now table) ≡ 3588) ⌝ }
-    requires { ⌜ from + length (rowTransitions (now sets) p m) ≤ 1024 ⌝ }
-    ensures { λ r. ⌜ r ≡ from + length (rowTransitions (now (sets .entry)) p m) ⌝ }
-    ensures { λ _. ⌜ Extends (rowTransitions (now (sets .entry)) p m) from (now (table .entry)) (now (table .exit)) ⌝ }
+// Writes the transitions of state p, which the sets hold, from number `from` on, and empties the sets; the number after them. `used` has bit a - 1 for
+// each action a with a transition.
+fn put_row(table: &mut Table, p: usize, used: u64, held: &mut [u64; 260], from: usize) -> usize
+    requires { ⌜ (p < 256) × (length (now table) ≡ 3588) × (now held ≡ rowOf 260 (inRow (now held))) × Covers used (inRow (now held)) ⌝ }
+    requires { ⌜ from + length (rowTransitions (now held) p 64) ≤ 1024 ⌝ }
+    ensures { λ r. ⌜ r ≡ from + length (rowTransitions (now (held .entry)) p 64) ⌝ }
+    ensures { λ _. ⌜ Extends (rowTransitions (now (held .entry)) p 64) from (now (table .entry)) (now (table .exit)) ⌝ }
+    ensures { λ _. ⌜ now (held .exit) ≡ rowOf 260 (λ x. false) ⌝ }
 {
     let mut at = from;
-    let mut a = 0;
-    while a < m {
-        at = put_action(table, p, a + 1, sets, at);
-        a += 1;
+    let mut left = used;
+    while left != 0 {
+        let a = u64::trailing_zeros(left) as usize + 1;
+        left = left & (left - 1);
+        at = put_action(table, p, a, held, at);
+        sets::put(held, a, [0u64; 4]);
     }
     at
 }
@@ -279,38 +283,53 @@ fn next_to(links: &Links, p: usize) -> usize
     rows::wide(links[256 + p])
 }
 
-// Puts the actions and targets of state p's chain, each where it goes, into the sets as the members 256 * a + t.
-fn add_chain(s: &[u8], h: encoding::Header, p: usize, maps: &Maps, sets: &mut [u64; 260])
+// Puts the actions and targets of state p's chain, each where it goes, into the sets as the members 256 * a + t. The result has bit a - 1
+// for each such action a.
+fn add_chain(s: &[u8], h: encoding::Header, p: usize, maps: &Maps, sets: &mut [u64; 260]) -> u64
     requires { ⌜ (Recorded (now s) h) × (p < h .states) × Within h (now maps) × (now sets ≡ rowOf 260 (inRow (now sets))) ⌝ }
     ensures { λ _. ⌜ (let old = now (sets .entry) in
         now (sets .exit) ≡ rowOf 260 (λ x. chainImage (now (maps .entry)) (now (s .entry)) h p x || inRow old x)) ⌝ }
+    ensures { λ r. ⌜ Covers r (chainImage (now (maps .entry)) (now (s .entry)) h p) ⌝ }
 {
     let mut j = encoding::first_of(s, h, p);
     let mut left = h.transitions + 1;
+    let mut used: u64 = 0;
     while left > 0 {
         if j == 0 {
-            return;
+            return used;
         }
         let r = encoding::known_transition(s, h, j);
         let a = action_to(maps, r.action as usize);
         rows::insert(sets, 256 * a + state_to(maps, r.target));
+        used = used | (1 << (a - 1));
         j = r.next;
         left -= 1;
     }
+    used
 }
 
-// The actions and targets of the chains of all states that go to state i, each where it goes.
-fn row_sets(s: &[u8], h: encoding::Header, maps: &Maps, links: &Links, i: usize) -> [u64; 260]
+// Puts the actions and targets of the chains of all states that go to state i, each where it goes, into empty sets. The result has bit a - 1
+// for each such action a.
+fn row_sets(
+    s: &[u8],
+    h: encoding::Header,
+    maps: &Maps,
+    links: &Links,
+    i: usize,
+    sets: &mut [u64; 260],
+) -> u64
     requires { ⌜ (Recorded (now s) h) × Within h (now maps) × Linked (h .states) (now maps) (now links) × (i < 256) ⌝ }
-    ensures { λ r. ⌜ r ≡ rowOf 260 (rowImage (now (maps .entry)) (now (s .entry)) h i) ⌝ }
+    requires { ⌜ now sets ≡ rowOf 260 (λ x. false) ⌝ }
+    ensures { λ _. ⌜ now (sets .exit) ≡ rowOf 260 (rowImage (now (maps .entry)) (now (s .entry)) h i) ⌝ }
+    ensures { λ r. ⌜ Covers r (inRow (now (sets .exit))) ⌝ }
 {
-    let mut sets = [0u64; 260];
+    let mut used: u64 = 0;
     let mut p = first_to(links, i);
     while p < 256 {
-        add_chain(s, h, p, maps, &mut sets);
+        used = used | add_chain(s, h, p, maps, sets);
         p = next_to(links, p);
     }
-    sets
+    used
 }
 
 // The end mark of state i: 1 if a state that goes there has it.
@@ -329,43 +348,40 @@ fn row_mark(s: &[u8], h: encoding::Header, links: &Links, i: usize) -> u8
     0
 }
 
-// Writes state i of a sheet under the maps, behind the states below it.
+// Writes state i of a sheet under the maps, behind the states below it. The sets are empty before and after.
 fn load_row(
     s: &[u8],
     h: encoding::Header,
     maps: &Maps,
     links: &Links,
     i: usize,
-    m: usize,
     table: &mut Table,
+    sets: &mut [u64; 260],
 )
-    requires { ⌜ Linked (h .states) (now maps) (now links) × ((L : Lts) × Loading L (now s) h (now maps) m i (now table) × Image L (now s) (now maps) i) ⌝ }
-    ensures { λ _. ⌜ (let sheet = now (s .entry) in let to = now (maps .entry) in (L : Lts)
+    requires { ⌜ Linked (h .states) (now maps) (now links)
+        × ((m : ℕ) × (L : Lts) × Loading L (now s) h (now maps) m i (now table) × Image L (now s) (now maps) i) ⌝ }
+    requires { ⌜ now sets ≡ rowOf 260 (λ x. false) ⌝ }
+    ensures { λ _. ⌜ (let sheet = now (s .entry) in let to = now (maps .entry) in (m : ℕ) (L : Lts)
         → Loading L sheet h to m i (now (table .entry)) → Image L sheet to i → Loading L sheet h to m (i + 1) (now (table .exit))) ⌝ }
+    ensures { λ _. ⌜ now (sets .exit) ≡ rowOf 260 (λ x. false) ⌝ }
 {
-    let sets = row_sets(s, h, maps, links, i);
-    let end = put_row(table, i, m, &sets, offset(table, i));
+    let used = row_sets(s, h, maps, links, i, sets);
+    let from = offset(table, i);
+    let end = put_row(table, i, used, sets, from);
     put_state(table, i, row_mark(s, h, links, i), end);
 }
 
 // Writes the states from `low` up to `high` of a sheet under the maps, behind those below `low`.
-fn load_rows(
-    s: &[u8],
-    h: encoding::Header,
-    maps: &Maps,
-    low: usize,
-    high: usize,
-    m: usize,
-    table: &mut Table,
-)
-    requires { ⌜ (low ≤ high) × ((L : Lts) × Loading L (now s) h (now maps) m low (now table) × Images L (now s) (now maps) low high) ⌝ }
-    ensures { λ _. ⌜ (let sheet = now (s .entry) in let to = now (maps .entry) in (L : Lts)
+fn load_rows(s: &[u8], h: encoding::Header, maps: &Maps, low: usize, high: usize, table: &mut Table)
+    requires { ⌜ (low ≤ high) × ((m : ℕ) × (L : Lts) × Loading L (now s) h (now maps) m low (now table) × Images L (now s) (now maps) low high) ⌝ }
+    ensures { λ _. ⌜ (let sheet = now (s .entry) in let to = now (maps .entry) in (m : ℕ) (L : Lts)
         → Loading L sheet h to m low (now (table .entry)) → Images L sheet to low high → Loading L sheet h to m high (now (table .exit))) ⌝ }
 {
     let links = link(maps, h.states);
+    let mut sets = [0u64; 260];
     let mut i = low;
     while i < high {
-        load_row(s, h, maps, &links, i, m, table);
+        load_row(s, h, maps, &links, i, table, &mut sets);
         i += 1;
     }
 }
@@ -376,7 +392,7 @@ pub fn load_mapped(s: &[u8], h: encoding::Header, maps: &Maps, n: usize, m: usiz
     ensures { λ r. ⌜ Holds (mapped n m (stateTo (now (maps .entry))) (actionTo (now (maps .entry))) (ltsOf (now (s .entry)))) r ⌝ }
 {
     let mut table = [0u16; 3588];
-    load_rows(s, h, maps, 0, n, m, &mut table);
+    load_rows(s, h, maps, 0, n, &mut table);
     let k = offset(&table, n);
     put_counts(&mut table, n, m, k);
     table
@@ -412,9 +428,9 @@ pub fn load_both(
     let n = h.states + g.states;
     let same = &same_actions(m);
     let own = raised(h, 0, same);
-    load_rows(first, h, &own, 0, h.states, m, &mut table);
+    load_rows(first, h, &own, 0, h.states, &mut table);
     let behind = raised(g, h.states, to);
-    load_rows(second, g, &behind, h.states, n, m, &mut table);
+    load_rows(second, g, &behind, h.states, n, &mut table);
     let k = offset(&table, n);
     put_counts(&mut table, n, m, k);
     table

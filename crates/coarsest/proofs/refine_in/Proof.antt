@@ -1,6 +1,5 @@
 -- `coarsest::refine_in` meets its contract: the counts and the representatives of a run's matrices. Assumes nothing.
 use native.Mathlib.Omega.{arith}
-use Prim.Native.Nat.{_≤_}
 use mathlib.Core.Path.{_∙_, sym}
 use denote.Ref.{now}
 use Rattle.coarsest.proofs.Laws.{table-related, table-blocks, table-reflexive, table-refined}
@@ -14,31 +13,27 @@ refine-all-requires c κs = search needs
 states-requires : tie.Need-states-requires
 states-requires c κs = search needs
 
--- the number of states that was read
-few : (c : tie.After-states) → c .states .result ≤ 256
-few c = omega (arith, c .states .ensures .0, c .before .before .before .before .before .before .before .before .before .before .before .before .before .before .before .before .before .pre .0 .0 .states)
-
 write-names-requires : tie.Need-write-names-requires
 write-names-requires c κs =
-    let start = c .before .before .before .before .before .before .before .before .before .before .before .before .before .before .before .before .before .before .before in
-    let ok = start .pre .0 .0 in
-    let st = start .pre .0 .1 in
-    let run = c .before .before .before .before .before .before .before .before .before .refine-all .ensures in
+    let p = c .before .before .before .before .before .before .before .before .before .before .before .before .before .before .before .pre .0 in
+    let schedule = now (c .before .before .before .before .before .before .before .before .before .before .before .before .before .before .before .args .schedule) in
+    let run = c .before .before .before .before .before .before .before .refine-all .ensures in
     let n = c .before .before .states .ensures .0 in
-    let schedule = now (start .args .schedule) in
-    (few (c .before .before), table-blocks ok st schedule n (run .1 .0) (run .1 .1), table-reflexive ok st schedule n (run .1 .0) (run .1 .1), start .pre .0 .2 ∙ sym n)
+    (omega (arith, n, p .0 .states), table-blocks (p .0) (p .1) schedule n (run .1 .0) (run .1 .1), table-reflexive (p .0) (p .1) schedule n (run .1 .0) (run .1 .1), p .2 ∙ sym n)
 
 count-pairs-requires : tie.Need-count-pairs-requires
 count-pairs-requires c κs =
-    let start = c .before .before .before .before .before .before .before .before .before .before .before .before .before .before .before .before .before .before .before .before .before .before .before in
-    let run = c .before .before .before .before .before .before .before .before .before .before .before .before .before .refine-all .ensures in
-    (table-related (start .pre .0 .0) (start .pre .0 .1) (now (start .args .schedule)) (c .before .before .before .before .before .before .states .ensures .0) (run .1 .0) (run .1 .1), few (c .before .before .before .before .before .before))
+    let p = c .before .before .before .before .before .before .before .before .before .before .before .before .before .before .before .before .before .before .before .pre .0 in
+    let run = c .before .before .before .before .before .before .before .before .before .before .before .refine-all .ensures in
+    let n = c .before .before .before .before .before .before .states .ensures .0 in
+    (table-related (p .0) (p .1) (now (c .before .before .before .before .before .before .before .before .before .before .before .before .before .before .before .before .before .before .before .args .schedule)) n (run .1 .0) (run .1 .1), omega (arith, n, p .0 .states))
 
 count-blocks-requires : tie.Need-count-blocks-requires
 count-blocks-requires c κs =
-    let start = c .before .before .before .before .before .before .before .before .before .before .before .before .before .before .before .before .before .before .before .before .before .before .before .before .before in
-    let run = c .before .before .before .before .before .before .before .before .before .before .before .before .before .before .before .refine-all .ensures in
-    (few (c .before .before .before .before .before .before .before .before), table-blocks (start .pre .0 .0) (start .pre .0 .1) (now (start .args .schedule)) (c .before .before .before .before .before .before .before .before .states .ensures .0) (run .1 .0) (run .1 .1))
+    let p = c .before .before .before .before .before .before .before .before .before .before .before .before .before .before .before .before .before .before .before .before .before .pre .0 in
+    let run = c .before .before .before .before .before .before .before .before .before .before .before .before .before .refine-all .ensures in
+    let n = c .before .before .before .before .before .before .before .before .states .ensures .0 in
+    (omega (arith, n, p .0 .states), table-blocks (p .0) (p .1) (now (c .before .before .before .before .before .before .before .before .before .before .before .before .before .before .before .before .before .before .before .before .before .args .schedule)) n (run .1 .0) (run .1 .1))
 
 same-length : tie.Need-same-length
 same-length c = search needs
@@ -49,14 +44,11 @@ same-length-2 c = search needs
 same-length-3 : tie.Need-same-length-3
 same-length-3 c = search needs
 
-same-length-4 : tie.Need-same-length-4
-same-length-4 c = search needs
-
 returns : tie.Need-returns
 returns c =
-    let start = c .before .before .before .before .before .before .before .before .before .before .before .before .before .before .before .before .before .before .before .before .before .before .before .before .before .before in
-    let run = c .before .before .before .before .before .before .before .before .before .before .before .before .before .before .before .before .refine-all .ensures in
-    table-refined (start .pre .0 .0) (start .pre .0 .1) (now (start .args .schedule)) (c .before .before .before .before .before .before .before .before .before .states .ensures .0) (run .1 .0) (run .1 .1)
+    let p = c .before .before .before .before .before .before .before .before .before .before .before .before .before .before .before .before .before .before .before .before .before .before .pre .0 in
+    let run = c .before .before .before .before .before .before .before .before .before .before .before .before .before .before .refine-all .ensures in
+    table-refined (p .0) (p .1) (now (c .before .before .before .before .before .before .before .before .before .before .before .before .before .before .before .before .before .before .before .before .before .before .args .schedule)) (c .before .before .before .before .before .before .before .before .before .states .ensures .0) (run .1 .0) (run .1 .1)
     (run .0) (c .before .before .count-pairs .ensures) (c .count-blocks .ensures) (c .before .before .before .before .before .before .write-names .ensures)
 
 pub refine-in-spec : {M : Type 1} → statement M
@@ -71,5 +63,4 @@ refine-in-spec =
     same-length
     same-length-2
     same-length-3
-    same-length-4
     returns)

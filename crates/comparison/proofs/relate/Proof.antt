@@ -1,4 +1,4 @@
--- `comparison::relate` meets its contract: each array has room for a matrix.
+-- `comparison::relate` meets its contract: the array of the blocks has room for a matrix. Assumes nothing.
 use mathlib.Core.Path.{sym, _∙_}
 use Rattle.rows.proofs.Rows.{prefix-long}
 use Rattle.comparison.proofs.Runs.{size-is}
@@ -15,31 +15,23 @@ matrix-words-requires c κs = search needs
 slice-aggregate-refine-all : tie.Need-slice-aggregate-refine-all
 slice-aggregate-refine-all c = search needs
 
-array-borrow-prefix-viewed : tie.Need-array-borrow-prefix-viewed
-array-borrow-prefix-viewed c = search needs
+array-borrow-prefix-blocks : tie.Need-array-borrow-prefix-blocks
+array-borrow-prefix-blocks c = search needs
 
 slice-aggregate-refine-all-2 : tie.Need-slice-aggregate-refine-all-2
 slice-aggregate-refine-all-2 c = sym (prefix-long _ 1024 (c .before .before .before .matrix-words .ensures .1))
 
-array-borrow-prefix-blocks : tie.Need-array-borrow-prefix-blocks
-array-borrow-prefix-blocks c = search needs
-
-slice-aggregate-refine-all-3 : tie.Need-slice-aggregate-refine-all-3
-slice-aggregate-refine-all-3 c = sym (prefix-long _ 1024 (c .before .before .before .before .matrix-words .ensures .1))
-
 refine-all-requires : tie.Need-refine-all-requires
 refine-all-requires c κs =
-    let w = c .before .before .before .before in
-    let size = w .matrix-words .ensures in
-    let p = w .before .before .before .before .pre in
-    let long = prefix-long _ 1024 (size .1) ∙ size-is (w .before .states .ensures .0) (size .0) in
-    ((p .0, p .1), (p .2, long, long))
+    let size = c .before .before .before .matrix-words .ensures in
+    let p = c .before .before .before .before .before .before .before .pre in
+    ((p .0, p .1), (p .2, prefix-long _ 1024 (size .1) ∙ size-is (c .before .before .before .before .states .ensures .0) (size .0)))
 
 same-length : tie.Need-same-length
 same-length c = search needs
 
 returns : tie.Need-returns
-returns c = let r = c .before .before .before .before .refine-all .ensures in (r .0, r .1 .0)
+returns c = let r = c .before .before .before .refine-all .ensures in (r .0, r .1 .0)
 
 pub relate-spec : {M : Type 1} → statement M
 relate-spec =
@@ -48,10 +40,8 @@ relate-spec =
     states-requires
     matrix-words-requires
     slice-aggregate-refine-all
-    array-borrow-prefix-viewed
-    slice-aggregate-refine-all-2
     array-borrow-prefix-blocks
-    slice-aggregate-refine-all-3
+    slice-aggregate-refine-all-2
     refine-all-requires
     same-length
     returns)

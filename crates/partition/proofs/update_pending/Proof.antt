@@ -1,176 +1,135 @@
-use mathlib.Core.Path.{_≡_, refl, sym, ap, _∙_}
-use mathlib.Core.Bool.{Bool, true, false, cond, not, _&&_}
+-- `partition::update_pending` meets its contract: the touched states that are alone all at once, then the other blocks. Assumes nothing.
+use mathlib.Core.Path.{_≡_, refl, sym, ap, ap₂, _∙_}
+use mathlib.Core.Bool.{Bool, true, false, not, _&&_, _||_, and-true, and-false, or-false}
 use mathlib.Core.List.{List, _++_}
 use mathlib.Core.Logic.{⊎-elim}
-use Prim.Native.Nat.{ℕ, _+_, _*_, _^_, _<_, _≤_, _-_}
+use Prim.Native.Nat.{ℕ, _<_}
 use native.Mathlib.Omega.{arith}
-use lib.Dec.{ltb}
-use lib.ListN.{length, drop, getD, replicate}
-use borrow.Author.Tests.{lt-ltb, le-ltb}
+use lib.ListN.{length, drop}
+use borrow.Author.Tests.{eq-eqb}
 use denote.Ref.{now}
-use Rattle.lts.specs.System.{Set, Rel}
-use Rattle.rows.specs.Rows.{inRow, rowOf, rowWords, statesBelow, Next}
-use Rattle.relation.specs.Matrix.{relationOf}
-use Rattle.lts.proofs.Below.{either, length-listBelow, lt-or-ge}
-use Rattle.rows.proofs.Rows.{rowOf-cong, row-ext, inRow-of, inRow-written, length-written, states-in, states-out}
-use Rattle.splitting.specs.Split.{Equivalence}
-use Rattle.relation.proofs.Rows.{row-words, zipped-row}
-use Rattle.splitting.proofs.Sweep.{Swept, sweep-first, sweep-next, sweep-end}
+use Rattle.lts.specs.Bounded.{lowest}
+use Rattle.lts.specs.System.{Rel}
+use Rattle.rows.specs.Rows.{inRow, rowOf}
+use Rattle.sets.specs.Sets.{setAt}
+use Rattle.sets.specs.Parts.{Parted, Owned}
+use Rattle.lts.proofs.Below.{clash, either, and-fst, lowest-is}
+use Rattle.rows.proofs.Rows.{inRow-written, length-written}
+use Rattle.sets.proofs.Lists.{set-in}
 use Rattle.partition.specs.Pending.{pendingIn}
+use Rattle.partition.proofs.Laws.{differs}
 use borrow.Author.Needs.{needs}
 use Rattle.partition.proofs.update_pending.Statement.{statement}
 use Rattle.partition.proofs.update_pending.Tie as tie
 
--- the set is right at x
-abbrev Right : Set → List ℕ → ℕ → Type 0
-Right New pending x = inRow pending x ≡ New x
-
--- the set is right at the states that are not left, and has no state from n on
-record Updated (n : ℕ) (New : Set) (pending left : List ℕ) (p : ℕ) : Type 0 where
-  pub long : length pending ≡ 4
-  pub left-long : length left ≡ 4
-  pub words : pending ≡ rowOf 4 (inRow pending)
-  pub clear : (q : ℕ) → n ≤ q → q < 256 → inRow pending q ≡ false
-  pub swept : Swept n (Right New pending) (inRow left) p
-
-module _ (n : ℕ) (New : Set) (small : n ≤ 256) where
-  update-first : (touched : Set) {pending left : List ℕ} {p : ℕ} → length pending ≡ 4 → ((j : ℕ) → getD pending j 0 < 2 ^ 64) → ((q : ℕ) → n ≤ q → q < 256 → inRow pending q ≡ false)
-      → ((x : ℕ) → x < n → touched x ≡ false → inRow pending x ≡ New x) → left ≡ rowOf 4 touched ++ drop 4 (replicate {A = ℕ} 4 0) → Next (inRow left) 256 0 p
-      → Updated n New pending left p
-  update-first touched {pending} {left} long fits clear same copied next = record {
-    long = long;
-    left-long = ap length copied ∙ length-written 4 touched (replicate {A = ℕ} 4 0) (omega arith);
-    words = row-ext 4 (inRow pending) pending long fits (λ q h. refl);
-    clear = clear;
-    swept = sweep-first n (Right New pending) (inRow left) (λ y h e. same y h (sym (at y h) ∙ e)) next;
-  }
+module _ (K W P : Rel) (shared touched : List ℕ) (parted : Parted P (inRow shared)) (owned : Owned P (inRow touched)) where
+  -- a touched state that is alone is its block's lowest
+  pending-alone : (p : ℕ) → p < 256 → inRow touched p ≡ true → inRow shared p ≡ false → differs W K p ≡ pendingIn 256 K W P p
+  unfolding pendingIn
+  pending-alone p h t s = sym (ap (λ (b : Bool). b && differs W K p) (eq-eqb (lowest 256 (P p)) p (sym (lowest-is 256 (P p) p h (owned p h t) below))))
     where
-      at : (y : ℕ) → y < n → inRow left y ≡ touched y
-      at y h = ap (λ (l : List ℕ). inRow l y) copied ∙ inRow-written 4 touched (drop 4 (replicate {A = ℕ} 4 0)) y (omega (arith, small, h))
+      below : (i : ℕ) → i < p → P p i ≡ false
+      below i l =
+          ⊎-elim (λ (e : P p i ≡ true). let same : i ≡ p = parted .single p i h (omega (arith, l, h)) s e in absurd (omega (arith, same, l))) (λ (e : P p i ≡ false). e) (either (P p i))
 
-  update-next : (grid : List ℕ) → Equivalence n (relationOf n grid) → {pending pending′ left left′ row : List ℕ} {p p′ w : ℕ} → w ≡ rowWords n → p < n
-      → pending′ ≡ rowOf 4 (λ x. cond (ltb x n && relationOf n grid p x) (New x) (inRow pending x)) → row ≡ drop (p * rowWords n) grid
-      → left′ ≡ rowOf w (λ q. inRow left q && not (inRow row q)) ++ drop w left → Next (inRow left′) 256 (p + 1) p′
-      → Updated n New pending left p → Updated n New pending′ left′ p′
-  update-next grid classes {pending} {pending′} {left} {left′} {p = p} {w = w} width hp done row-is minus next u = record {
-    long = ap length done ∙ length-listBelow 4 _;
-    left-long = ap length minus ∙ length-written w _ left (omega (arith, width, small, u .left-long)) ∙ u .left-long;
-    words = done ∙ rowOf-cong 4 _ _ (λ q h. sym (at q h));
-    clear = λ q l h. at q h ∙ ap (λ (b : Bool). cond (b && P p q) (New q) (inRow pending q)) (le-ltb q n l) ∙ u .clear q l h;
-    swept = sweep-next n P (Right New pending) (Right New pending′) (inRow left) (inRow left′) (classes .loop p hp) (zipped-row n p grid (λ a b. a && not b) left width row-is minus)
-        (λ y h old. inside y h ∙ ⊎-elim (λ (e : P p y ≡ true). ap (λ (b : Bool). cond b (New y) (inRow pending y)) e) (λ (e : P p y ≡ false). ap (λ (b : Bool). cond b (New y) (inRow pending y)) e ∙ old) (either (P p y)))
-        (λ y h e. inside y h ∙ ap (λ (b : Bool). cond b (New y) (inRow pending y)) e) (u .swept) next;
-  }
-    where
-      P : Rel
-      P = relationOf n grid
+  -- pending is right where nothing is touched; after the two row steps it is right at all but the shared touched states
+  module _ (pending alone news mid done common : List ℕ)
+      (alone-is : alone ≡ rowOf 4 (λ q. inRow touched q && not (inRow shared q)))
+      (news-is : news ≡ rowOf 4 (λ p. inRow alone p && differs W K p))
+      (mid-is : mid ≡ rowOf 4 (λ q. inRow pending q && not (inRow alone q)) ++ drop 4 pending)
+      (done-is : done ≡ rowOf 4 (λ q. inRow mid q || inRow news q) ++ drop 4 mid)
+      (common-is : common ≡ rowOf 4 (λ q. inRow touched q && inRow shared q))
+      (right : (p : ℕ) → p < 256 → inRow touched p ≡ false → inRow pending p ≡ pendingIn 256 K W P p) where
+    done-long : length pending ≡ 4 → length done ≡ 4
+    done-long long =
+        let here : length mid ≡ 4 = ap length mid-is ∙ length-written 4 (λ q. inRow pending q && not (inRow alone q)) pending (omega (arith, long)) ∙ long in
+        ap length done-is ∙ length-written 4 (λ q. inRow mid q || inRow news q) mid (omega (arith, here)) ∙ here
 
-      at : (q : ℕ) → q < 256 → inRow pending′ q ≡ cond (ltb q n && P p q) (New q) (inRow pending q)
-      at q h = ap (λ (l : List ℕ). inRow l q) done ∙ inRow-of 4 (λ x. cond (ltb x n && P p x) (New x) (inRow pending x)) q h
+    common-owned : Owned P (inRow common)
+    common-owned g h e = owned g h (and-fst (inRow touched g) (inRow shared g) (sym (set-in (λ q. inRow touched q && inRow shared q) common-is g h) ∙ e))
 
-      inside : (y : ℕ) → y < n → inRow pending′ y ≡ cond (P p y) (New y) (inRow pending y)
-      inside y h = at y (omega (arith, small, h)) ∙ ap (λ (b : Bool). cond (b && P p y) (New y) (inRow pending y)) (lt-ltb y n h)
+    done-right : (p : ℕ) → p < 256 → inRow common p ≡ false → inRow done p ≡ pendingIn 256 K W P p
+    done-right p h e = in-done ∙ go (inRow touched p) (inRow shared p) refl refl (sym (set-in (λ q. inRow touched q && inRow shared q) common-is p h) ∙ e)
+      where
+        single : Bool
+        single = inRow touched p && not (inRow shared p)
 
-  update-end : {pending left : List ℕ} {p : ℕ} → n ≤ p → Updated n New pending left p → pending ≡ rowOf 4 (statesBelow n New)
-  update-end {pending} {left} {p} end u =
-      u .words ∙ rowOf-cong 4 _ _ (λ q h.
-      ⊎-elim (λ (l : q < n). sweep-end n (Right New pending) (inRow left) p end (u .swept) q l ∙ sym (states-in n New q l)) (λ (l : n ≤ q). u .clear q l h ∙ sym (states-out n New q l))
-      (lt-or-ge q n))
+        in-alone : inRow alone p ≡ single
+        in-alone = set-in (λ q. inRow touched q && not (inRow shared q)) alone-is p h
 
-abbrev test : ℕ → List ℕ → List ℕ → List ℕ → Set
-test n related viewed blocks = pendingIn n (relationOf n related) (relationOf n viewed) (relationOf n blocks)
+        in-done : inRow done p ≡ (inRow pending p && not (inRow touched p && not (inRow shared p))) || ((inRow touched p && not (inRow shared p)) && differs W K p)
+        in-done =
+            ap (λ (l : List ℕ). inRow l p) done-is ∙ inRow-written 4 (λ q. inRow mid q || inRow news q) (drop 4 mid) p h
+            ∙ ap₂ _||_
+            (ap (λ (l : List ℕ). inRow l p) mid-is ∙ inRow-written 4 (λ q. inRow pending q && not (inRow alone q)) (drop 4 pending) p h ∙ ap (λ (b : Bool). inRow pending p && not b) in-alone)
+            (set-in (λ p. inRow alone p && differs W K p) news-is p h ∙ ap (λ (b : Bool). b && differs W K p) in-alone)
 
-abbrev Inv-loop : tie.InvT-loop
-Inv-loop related viewed blocks n touched pending₀ w left₀ p₀ pending left p = Updated n (test n related viewed blocks) pending left p
+        go : (t s : Bool) → inRow touched p ≡ t → inRow shared p ≡ s → t && s ≡ false
+            → (inRow pending p && not (t && not s)) || ((t && not s) && differs W K p) ≡ pendingIn 256 K W P p
+        go false s a b e = or-false (inRow pending p && true) ∙ and-true (inRow pending p) ∙ right p h a
+        go true true a b e = absurd (clash refl e)
+        go true false a b e = ap (λ (x : Bool). x || differs W K p) (and-false (inRow pending p)) ∙ pending-alone p h a b
 
-abbrev μ-loop : tie.MeasureT-loop
-μ-loop related viewed blocks n touched pending₀ w left₀ p₀ pending left p = n - p
+minus-requires : tie.Need-minus-requires
+minus-requires c κs = search needs
 
-row-words-requires : tie.Need-row-words-requires Inv-loop μ-loop
-row-words-requires c κs = search needs
+differing-requires : tie.Need-differing-requires
+differing-requires c κs = search needs
 
-slice-aggregate-row-copy : tie.Need-slice-aggregate-row-copy Inv-loop μ-loop
-slice-aggregate-row-copy c = search needs
-
-row-copy-requires : tie.Need-row-copy-requires Inv-loop μ-loop
-row-copy-requires c κs = search needs
-
-slice-aggregate-next-state : tie.Need-slice-aggregate-next-state Inv-loop μ-loop
-slice-aggregate-next-state c = search needs
-
-next-state-requires : tie.Need-next-state-requires Inv-loop μ-loop
-next-state-requires c κs = search needs
-
-loop-holds : tie.Need-loop-holds Inv-loop μ-loop
-loop-holds c =
-    let start = c .before .before .before .before .before .before .before .before .before .before .before in
-    let a = start .args in
-    let pre = start .pre .0 in
-    update-first (a .n) (test (a .n) (now (a .related)) (now (a .viewed)) (now (a .blocks))) (pre .0) (inRow (now (a .touched))) (pre .5) (λ j. c .before .before .before .before .before .before .before .slice-known .given j .fits) (pre .6) (start .pre .1)
-    (c .before .before .before .row-copy .ensures) (c .next-state .ensures)
-
-update-block-requires : tie.Need-update-block-requires Inv-loop μ-loop
-update-block-requires c κs = search needs
-
-slice-aggregate-row-minus : tie.Need-slice-aggregate-row-minus Inv-loop μ-loop
+slice-aggregate-row-minus : tie.Need-slice-aggregate-row-minus
 slice-aggregate-row-minus c = search needs
 
-row-at-requires : tie.Need-row-at-requires Inv-loop μ-loop
-row-at-requires c κs = search needs
+row-minus-requires : tie.Need-row-minus-requires
+row-minus-requires c κs = search needs
 
-row-minus-requires : tie.Need-row-minus-requires Inv-loop μ-loop
-row-minus-requires c κs =
-    let start = c .before .before .before .before .before .before .before .before .before .before .before .before .before .before .before .before .before .before .before in
-    (search needs, row-words (start .args .n) (now (start .args .blocks)) (c .before .before .before .before .before .before .before .before .before .before .before .before .before .before .row-words .ensures) (c .row-at .ensures) (c .before .before .before .before .before .before .loop-test .taken) (start .pre .0 .3))
+slice-aggregate-row-union : tie.Need-slice-aggregate-row-union
+slice-aggregate-row-union c = search needs
 
-slice-aggregate-next-state-2 : tie.Need-slice-aggregate-next-state-2 Inv-loop μ-loop
-slice-aggregate-next-state-2 c = search needs
+row-union-requires : tie.Need-row-union-requires
+row-union-requires c κs = search needs
 
-add-next-state : tie.Need-add-next-state Inv-loop μ-loop
-add-next-state c = search needs
+meet-requires : tie.Need-meet-requires
+meet-requires c κs = search needs
 
-next-state-requires-2 : tie.Need-next-state-requires-2 Inv-loop μ-loop
-next-state-requires-2 c κs = search needs
-
-loop-less : tie.Need-loop-less Inv-loop μ-loop
-loop-less c = search needs
-
-loop-again : tie.Need-loop-again Inv-loop μ-loop
-loop-again c =
-    let start = c .before .before .before .before .before .before .before .before .before .before .before .before .before .before .before .before .before .before .before .before .before .before .before in
+update-blocks-requires : tie.Need-update-blocks-requires
+update-blocks-requires c κs =
+    let start = c .before .before .before .before .before .before .before .before .before .before .before .before .before .before .before .before .before .before in
     let a = start .args in
-    update-next (a .n) (test (a .n) (now (a .related)) (now (a .viewed)) (now (a .blocks))) (start .pre .0 .0) (now (a .blocks)) (start .pre .0 .4) (c .before .before .before .before .before .before .before .before .before .before .before .before .before .before .before .before .before .before .row-words .ensures) (c .before .before .before .before .before .before .before .before .before .before .loop-test .taken)
-    (c .before .before .before .before .before .before .before .before .update-block .ensures) (c .before .before .before .before .row-at .ensures) (c .before .before .before .row-minus .ensures) (c .next-state2 .ensures) (c .before .before .before .before .before .before .before .before .before .before .before .loop .inv)
+    let K = setAt (now (a .related)) in
+    let W = setAt (now (a .viewed)) in
+    let P = setAt (now (a .blocks)) in
+    let parted = start .pre .1 .0 .0 in
+    let owned = start .pre .1 .0 .1 in
+    let right = start .pre .1 .1 in (
+      (
+        start .pre .0 .0,
+        start .pre .0 .1,
+        start .pre .0 .2,
+        done-long K W P (a .shared) (a .touched) parted owned (now (a .pending)) _ _ _ _ _ (c .before .before .before .before .before .before .before .before .before .before .before .before .before .minus .ensures) (c .before .before .before .before .before .before .before .before .before .before .before .before .differing .ensures) (c .before .before .before .before .before .before .before .before .before .row-minus .ensures) (c .before .before .before .before .row-union .ensures) (c .before .meet .ensures) right (start .pre .0 .3),
+      ),
+      (
+        ((inRow (a .shared), parted), common-owned K W P (a .shared) (a .touched) parted owned (now (a .pending)) _ _ _ _ _ (c .before .before .before .before .before .before .before .before .before .before .before .before .before .minus .ensures) (c .before .before .before .before .before .before .before .before .before .before .before .before .differing .ensures) (c .before .before .before .before .before .before .before .before .before .row-minus .ensures) (c .before .before .before .before .row-union .ensures) (c .before .meet .ensures) right),
+        done-right K W P (a .shared) (a .touched) parted owned (now (a .pending)) _ _ _ _ _ (c .before .before .before .before .before .before .before .before .before .before .before .before .before .minus .ensures) (c .before .before .before .before .before .before .before .before .before .before .before .before .differing .ensures) (c .before .before .before .before .before .before .before .before .before .row-minus .ensures) (c .before .before .before .before .row-union .ensures) (c .before .meet .ensures) right,
+      ),
+    )
 
-same-length : tie.Need-same-length Inv-loop μ-loop
+same-length : tie.Need-same-length
 same-length c = search needs
 
-returns : tie.Need-returns Inv-loop μ-loop
-returns c =
-    let start = c .before .before .before .before .before .before .before .before .before .before .before .before .before in
-    let a = start .args in
-    update-end (a .n) (test (a .n) (now (a .related)) (now (a .viewed)) (now (a .blocks))) (start .pre .0 .0) (c .loop-test .left) (c .before .loop .inv)
+returns : tie.Need-returns
+returns c = search needs
 
 pub update-pending-spec : {M : Type 1} → statement M
 update-pending-spec =
     tie.close
     (tie.spec
-    Inv-loop
-    μ-loop
-    row-words-requires
-    slice-aggregate-row-copy
-    row-copy-requires
-    slice-aggregate-next-state
-    next-state-requires
-    loop-holds
-    update-block-requires
+    minus-requires
+    differing-requires
     slice-aggregate-row-minus
-    row-at-requires
     row-minus-requires
-    slice-aggregate-next-state-2
-    add-next-state
-    next-state-requires-2
-    loop-less
-    loop-again
+    slice-aggregate-row-union
+    row-union-requires
+    meet-requires
+    update-blocks-requires
     same-length
     returns)

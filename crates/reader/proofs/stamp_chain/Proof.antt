@@ -1,8 +1,10 @@
 -- `reader::stamp_chain` meets its contract, as `mark_chain` does; a place is the action and target of a record.
 use borrow.Author.Needs.{needs}
-use Prim.Native.Nat.{_≤_, _-_, _+_}
+use native.Mathlib.Omega.{arith}
+use Prim.Native.Nat.{_≤_, _-_, _+_, _*_}
 use native.Mathlib.Numerals.{add-one}
-use mathlib.Core.Path.{_≡_, ap}
+use mathlib.Core.Path.{_≡_, refl, ap, _∙_}
+use lib.ListN.{length, length-set}
 use Rattle.encoding.specs.Encoding.{walk, chain, successor}
 use Rattle.encoding.specs.Checked.{Recorded}
 use Rattle.encoding.proofs.Chains.{walk-none, walk-end, walk-more}
@@ -14,6 +16,7 @@ use Rattle.reader.proofs.stamp_chain.Tie as tie
 abbrev Inv-loop : tie.InvT-loop
 Inv-loop s h p stamps₀ stamp j₀ left₀ stamps j left =
     Recorded s h × (j ≤ h .transitions) × Rest (p + 1) stamps₀ (map (successor s h) (chain s h p)) stamps (map (successor s h) (walk s h left j))
+    × (length stamps ≡ length stamps₀) × (256 * (h .actions + 1) ≤ length stamps)
 
 abbrev μ-loop : tie.MeasureT-loop
 μ-loop s h p stamps₀ stamp j₀ left₀ stamps j left = left
@@ -33,9 +36,12 @@ add-left c = search needs
 loop-holds : tie.Need-loop-holds Inv-loop μ-loop
 unfolding chain
 loop-holds c =
-    let a = c .before .before .before in
+    let a = c .before .before .before .before in
     let e = c .before .first-of .ensures in
-    (a .pre .0, e .bound, rw (e .is, add-one (a .args .h .transitions)) (rest-start _ _ _))
+    (a .pre .0, e .bound, rw (e .is, add-one (a .args .h .transitions)) (rest-start _ _ _), refl, a .pre .2)
+
+same-length : tie.Need-same-length Inv-loop μ-loop
+same-length c = search needs
 
 returns : tie.Need-returns Inv-loop μ-loop
 returns c = rest-end _ _ _ _ _ (rw (c .if1 .taken, walk-end)) (c .before .before .loop .inv .2)
@@ -55,8 +61,11 @@ add-at c = search needs
 mul-if2 : tie.Need-mul-if2 Inv-loop μ-loop
 mul-if2 c = search needs
 
-element-copy-out-if2 : tie.Need-element-copy-out-if2 Inv-loop μ-loop
-element-copy-out-if2 c = search needs
+slice-read-if2 : tie.Need-slice-read-if2 Inv-loop μ-loop
+slice-read-if2 c = search needs
+
+same-length-2 : tie.Need-same-length-2 Inv-loop μ-loop
+same-length-2 c = search needs
 
 returns-2 : tie.Need-returns-2 Inv-loop μ-loop
 unfolding successor
@@ -68,8 +77,8 @@ returns-2 c =
 mul-stamps : tie.Need-mul-stamps Inv-loop μ-loop
 mul-stamps c = search needs
 
-element-write-stamps : tie.Need-element-write-stamps Inv-loop μ-loop
-element-write-stamps c = search needs
+slice-write-stamps : tie.Need-slice-write-stamps Inv-loop μ-loop
+slice-write-stamps c = search needs
 
 sub-left : tie.Need-sub-left Inv-loop μ-loop
 sub-left c = search needs
@@ -85,7 +94,12 @@ loop-again c =
       l .inv .0,
       e .next,
       rw (e .is) (rest-more _ _ _ _ _ _ _ (ap (map _) (walk-more _ _ (l .left) (l .j) (search needs) (search needs))) (l .inv .2) (rw (e .is) at (c .if2 .left))),
+      rw length-set (l .inv .3),
+      rw length-set (l .inv .4),
     )
+
+same-length-3 : tie.Need-same-length-3 Inv-loop μ-loop
+same-length-3 c = search needs
 
 returns-3 : tie.Need-returns-3 Inv-loop μ-loop
 returns-3 c =
@@ -104,17 +118,20 @@ stamp-chain-spec =
     first-of-requires
     add-left
     loop-holds
+    same-length
     returns
     known-transition-requires
     cast-at
     mul-at
     add-at
     mul-if2
-    element-copy-out-if2
+    slice-read-if2
+    same-length-2
     returns-2
     mul-stamps
-    element-write-stamps
+    slice-write-stamps
     sub-left
     loop-less
     loop-again
+    same-length-3
     returns-3)

@@ -1,79 +1,98 @@
-use Prim.Native.Nat.{ℕ, _+_, _≤_, _-_}
-use native.Mathlib.Omega.{arith}
+-- `refinement::refine_actions` meets its contract: by `Going`, over the bits of the word of actions. Assumes nothing.
 use mathlib.Core.Path.{_≡_, sym, ap, _∙_}
+use Prim.Native.Nat.{ℕ, _+_, _-_, _<_, _≤_}
+use native.Mathlib.Omega.{arith}
+use mathlib.Core.List.{List}
 use lib.ListN.{length}
+use lib.Bits.{bitAnd}
+use lib.Count.{trailingZeros}
 use denote.Ref.{now}
 use Rattle.rows.specs.Rows.{inRow}
-use Rattle.relation.specs.Matrix.{relationOf, matrixOf}
-use Rattle.relation.proofs.Matrices.{formed-of, matrix-relation, length-matrixOf}
-use Rattle.splitting.specs.Split.{Parted}
-use Rattle.refinement.specs.Engine.{acted, actionsTo, Untouched}
-use Rattle.refinement.proofs.Actions.{acted-next}
-use Rattle.refinement.proofs.Touched.{untouched-none, untouched-then}
+use Rattle.sets.proofs.Lists.{sets-long}
+use Rattle.refinement.specs.Engine.{Owning, Fixed, removedBy, hitsBy}
+use Rattle.refinement.proofs.Actions.{Going, going-begin, going-next, going-end, next-most, next-low}
+use lib.Bits.{and-le-r}
+use lib.Count.{trailing-le}
 use borrow.Author.Needs.{needs}
 use Rattle.refinement.proofs.refine_actions.Statement.{statement}
 use Rattle.refinement.proofs.refine_actions.Tie as tie
 
 abbrev Inv-loop : tie.InvT-loop
-Inv-loop n m removed members shared related₀ blocks₀ touched₀ a₀ related blocks touched a = (a ≤ m) × (related ≡ matrixOf n (acted n removed members a related₀ blocks₀ .related)) × (blocks ≡ matrixOf n (acted n removed members a related₀ blocks₀ .blocks)) × Untouched n related₀ blocks₀ touched₀ related blocks touched × Parted n (relationOf n blocks) (inRow shared)
+Inv-loop places rows turn shared related₀ blocks₀ touched₀ left₀ related blocks touched left =
+    (length related ≡ 1024) × (length blocks ≡ 1024) × ((t : List ℕ) → Owning t blocks₀
+    → Fixed t places rows (turn .actions) (inRow (turn .members)) (inRow (turn .inside)) (inRow (turn .outside)) (inRow shared) (turn .whole)
+    → (i : ℕ) × Going t (removedBy t (inRow (turn .inside)) (inRow (turn .outside))) (hitsBy t (inRow (turn .members))) (turn .actions) (inRow shared) related₀ blocks₀ i left related blocks touched)
 
 abbrev μ-loop : tie.MeasureT-loop
-μ-loop n m removed members shared related₀ blocks₀ touched₀ a₀ related blocks touched a = m - a
+μ-loop places rows turn shared related₀ blocks₀ touched₀ left₀ related blocks touched left = left
 
 loop-holds : tie.Need-loop-holds Inv-loop μ-loop
-unfolding actionsTo
 loop-holds c =
-    let pre = c .before .before .before .pre .0 in
-    (search needs, matrix-relation _ _ (pre .2) (λ j. c .before .before .slice-known .given j .fits), matrix-relation _ _ (pre .3) (λ j. c .before .slice-known2 .given j .fits), untouched-none _ _ _ _ (pre .5), pre .4)
+    let start = c .before .before .before .before in (
+      start .pre .0,
+      start .pre .1,
+      λ t own fixed. (
+        0,
+        going-begin fixed (now (start .args .related)) (now (start .args .blocks)) (start .pre .0) (start .pre .1) (λ j. c .before .slice-known .given j .fits)
+            (λ j. c .slice-known2 .given j .fits) (start .pre .2) own _,
+      ),
+    )
 
-add-refine-action : tie.Need-add-refine-action Inv-loop μ-loop
-add-refine-action c = search needs
+cast-a : tie.Need-cast-a Inv-loop μ-loop
+cast-a c = let low : trailingZeros 64 (c .before .loop .left) ≤ 64 = trailing-le 64 _ in search needs
+
+add-a : tie.Need-add-a Inv-loop μ-loop
+add-a c = let low : trailingZeros 64 (c .before .loop .left) ≤ 64 = trailing-le 64 _ in search needs
+
+sub-left : tie.Need-sub-left Inv-loop μ-loop
+sub-left c = search needs
 
 refine-action-requires : tie.Need-refine-action-requires Inv-loop μ-loop
 refine-action-requires c κs =
-    let inv = c .before .before .before .before .loop .inv in
-    ((c .before .before .before .before .before .before .before .before .pre .0 .0, omega arith, formed-of _ _ (inv .1), formed-of _ _ (inv .2), inv .4, inv .3 .long), λ x h e. c .before .before .before .before .before .before .before .before .pre .1 (c .before .before .before .before .loop .a + 1) x (omega arith) h e)
+    let start = c .before .before .before .before .before .before .before .before in
+    let at = c .before .before .before .loop in
+    let p = start .pre .3 in
+    let g = at .inv .2 (p .0) (p .1) (p .2) .1 in
+    let most = next-most (p .2) (now (start .args .related)) (now (start .args .blocks)) g (c .before .before .loop-test .taken) in
+    (at .inv .0, at .inv .1, g .parts, (p .0, p .2 .index, omega arith, most, g .own))
 
-add-a : tie.Need-add-a Inv-loop μ-loop
-add-a c = search needs
+join-requires : tie.Need-join-requires Inv-loop μ-loop
+join-requires c κs = search needs
 
 loop-less : tie.Need-loop-less Inv-loop μ-loop
-loop-less c = search needs
+loop-less c = let some = c .before .before .before .before .before .before .before .before .loop-test .taken in let x = c .before .before .before .before .before .before .before .before .before .loop .left in let low : 1 ≤ x = search needs in omega (arith, and-le-r x (x - 1))
 
 loop-again : tie.Need-loop-again Inv-loop μ-loop
 loop-again c =
-    let at = c .before .before .before .before .before .before .before .before .before .before .before .loop in
-    let a = c .before .before .before .before .before .before .before .before .before .before .before .before .before .before .before .args in
-    let n = a .n in
-    let got = c .before .before .before .before .before .before .refine-action .ensures in
-    let e = acted-next n (now (a .removed)) (now (a .members)) (at .a) (record { related = relationOf n (now (a .related)); blocks = relationOf n (now (a .blocks)) }) (at .related) (at .blocks) (at .inv .1) (at .inv .2) in
-    (omega arith, got .0 ∙ e .0, got .1 .0 ∙ e .1, untouched-then n _ _ _ _ _ _ _ _ _ (at .inv .3) (got .1 .1 .0), got .1 .1 .1)
+    let start = c .before .before .before .before .before .before .before .before .before .before .before .before .before .before in
+    let at = c .before .before .before .before .before .before .before .before .before .loop in
+    let some = c .before .before .before .before .before .before .before .before .loop-test .taken in
+    let r = c .before .before .before .before .before .refine-action .ensures in
+    let p = start .pre .3 in
+    let g = at .inv .2 (p .0) (p .1) (p .2) .1 in
+    let most = next-most (p .2) (now (start .args .related)) (now (start .args .blocks)) g some in
+    let act = r .0 (p .0) (p .2 .index) most (p .2 .covers) in (
+      sets-long 256 _ (act .related-is),
+      sets-long 256 _ (act .blocks-is),
+      λ t own fixed.
+          let g = at .inv .2 t own fixed .1 in
+          let most = next-most fixed (now (start .args .related)) (now (start .args .blocks)) g some in
+          (_, going-next fixed (now (start .args .related)) (now (start .args .blocks)) g some (r .0 t (fixed .index) most (fixed .covers)) (r .1) (c .join .ensures)),
+    )
 
 same-length : tie.Need-same-length Inv-loop μ-loop
-same-length c =
-    ap length (c .before .loop .inv .1) ∙ length-matrixOf _ _ ∙ sym (c .before .before .before .before .before .pre .0 .2 .long)
+same-length c = c .before .loop .inv .0 ∙ sym (c .before .before .before .before .before .before .pre .0)
 
 same-length-2 : tie.Need-same-length-2 Inv-loop μ-loop
-same-length-2 c =
-    ap length (c .before .loop .inv .2) ∙ length-matrixOf _ _ ∙ sym (c .before .before .before .before .before .pre .0 .3 .long)
-
-same-length-3 : tie.Need-same-length-3 Inv-loop μ-loop
-same-length-3 c =
-    c .before .loop .inv .3 .long ∙ sym (c .before .before .before .before .before .pre .0 .5)
+same-length-2 c = c .before .loop .inv .1 ∙ sym (c .before .before .before .before .before .before .pre .1)
 
 returns : tie.Need-returns Inv-loop μ-loop
 returns c =
-    let a = c .before .before .before .before .before .args in
-    let inv = c .before .loop .inv in
-    let last : c .before .loop .a ≡ a .m = omega arith in (
-      inv .1 ∙ ap (λ (j : ℕ). matrixOf (a .n) (acted (a .n) (now (a .removed)) (now (a .members)) j (now (a .related)) (now (a .blocks)) .related)) last,
-      (
-        inv .2 ∙ ap (λ (j : ℕ). matrixOf (a .n) (acted (a .n) (now (a .removed)) (now (a .members)) j (now (a .related)) (now (a .blocks)) .blocks)) last,
-        (
-          inv .3,
-          inv .4,
-        ),
-      ),
+    let start = c .before .before .before .before .before .before in
+    let at = c .before .loop in
+    let p = start .pre .3 in (
+      λ t own fixed. going-end fixed (now (start .args .related)) (now (start .args .blocks)) (at .inv .2 t own fixed .1) (c .loop-test .left),
+      at .inv .2 (p .0) (p .1) (p .2) .1 .parts,
     )
 
 pub refine-actions-spec : {M : Type 1} → statement M
@@ -83,12 +102,13 @@ refine-actions-spec =
     Inv-loop
     μ-loop
     loop-holds
-    add-refine-action
-    refine-action-requires
+    cast-a
     add-a
+    sub-left
+    refine-action-requires
+    join-requires
     loop-less
     loop-again
     same-length
     same-length-2
-    same-length-3
     returns)

@@ -75,7 +75,7 @@ load-rows-requires c κs =
     let d = c .before .before in
     let start = d .before .before .before .before .before .before .before in
     let own = keeps start (d .raised .ensures) (d .before .before .same-actions .ensures) in
-    (search needs, (U start, both-start (both start) own, first-images (both start) own))
+    (search needs, (start .args .m, U start, both-start (both start) own, first-images (both start) own))
 
 raised-requires-2 : tie.Need-raised-requires-2
 raised-requires-2 c κs = search needs
@@ -87,7 +87,8 @@ load-rows-requires-2 c κs =
     let start = b .before .before .before .before .before .before .before in
     let own = keeps start (b .raised .ensures) (b .before .before .same-actions .ensures) in
     let behind = d .raised2 .ensures in
-    (search needs, (U start, both-middle (both start) behind (half start own (d .before .load-rows .ensures)), second-images (both start) behind))
+    let f = both-middle (both start) behind (half start own (d .before .load-rows .ensures (start .args .m))) in
+    (search needs, (start .args .m, U start, f, second-images (both start) behind))
 
 offset-requires : tie.Need-offset-requires
 offset-requires c κs =
@@ -108,9 +109,9 @@ returns c =
     let start = b .before .before .before .before .before .before .before in
     let own = keeps start (b .raised .ensures) (b .before .before .same-actions .ensures) in
     let behind = d .raised2 .ensures in
-    let f = both-middle (both start) behind (half start own (d .before .load-rows .ensures)) in
+    let f = both-middle (both start) behind (half start own (d .before .load-rows .ensures (start .args .m))) in
     rw (c .put-counts .ensures, c .before .before .offset .ensures .0)
-    (both-filled (both start) behind (c .before .before .before .before .load-rows2 .ensures (U start) f (second-images (both start) behind)))
+    (both-filled (both start) behind (c .before .before .before .before .load-rows2 .ensures (start .args .m) (U start) f (second-images (both start) behind)))
 
 pub load-both-spec : {M : Type 1} → statement M
 load-both-spec =

@@ -37,7 +37,7 @@ images c =
 load-rows-requires : tie.Need-load-rows-requires
 load-rows-requires c κs =
     let start = c .before .before in
-    (search needs, (system start, first start, images start))
+    (search needs, (start .args .m, system start, first start, images start))
 
 offset-requires : tie.Need-offset-requires
 offset-requires c κs = search needs
@@ -52,8 +52,9 @@ returns c =
     let start = c .before .before .before .before .before .before .before in
     let a = start .args in
     let q = start .pre in
+    let f = c .before .before .before .before .load-rows .ensures (a .m) (system start) (first start) (images start) in
     rw (c .put-counts .ensures, c .before .before .offset .ensures .0)
-    (mapped-filled (now (a .s)) (a .h) (q .0) (now (a .maps)) (a .n) (a .m) (q .1) (q .2) (q .3) (c .before .before .before .before .load-rows .ensures (system start) (first start) (images start)))
+    (mapped-filled (now (a .s)) (a .h) (q .0) (now (a .maps)) (a .n) (a .m) (q .1) (q .2) (q .3) f)
 
 pub load-mapped-spec : {M : Type 1} → statement M
 load-mapped-spec =

@@ -1,0 +1,2 @@
+pub mod Adjacency
+pub mod Building
