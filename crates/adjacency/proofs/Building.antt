@@ -37,68 +37,62 @@ put-more old H z {l} e =
     assoc true b c = refl
     assoc false b c = refl
 
--- the six members of a transition
-pub all-put : (places : List ℕ) (fresh p a t : ℕ) → p < 256 → (old : List ℕ) {places₁ places₂ r₁ r₂ r₃ r₄ r₅ r₆ : List ℕ}
-    → places₁ ≡ claimed places (targetsPlace a p) fresh → r₁ ≡ put old (256 * (65 + getD (claimed places (targetsPlace a p) fresh) (targetsPlace a p) 0) + t)
+-- the five members of a transition
+pub all-put : (places : List ℕ) (fresh p a t : ℕ) → p < 256 → (old : List ℕ) {places₁ places₂ r₁ r₂ r₃ r₄ r₅ : List ℕ}
+    → places₁ ≡ claimed places (targetsPlace a p) fresh → r₁ ≡ put old (256 * (64 + getD (claimed places (targetsPlace a p) fresh) (targetsPlace a p) 0) + t)
     → places₂ ≡ claimed places₁ (sourcesPlace a t) (fresh + 1)
-    → r₂ ≡ put r₁ (256 * (65 + getD (claimed places₁ (sourcesPlace a t) (fresh + 1)) (sourcesPlace a t) 0) + p)
-    → r₃ ≡ put r₂ (256 * (64 + 2 * a) + p) → r₄ ≡ put r₃ (256 * (65 + 2 * a) + t) → r₅ ≡ put r₄ (64 * t + (a - 1)) → r₆ ≡ put r₅ (64 * 256 + (a - 1))
-    → (places₂ ≡ placed places fresh p a t) × (r₆ ≡ rowOf (length old) (λ y. hit (placed places fresh p a t) p a t y || inRow old y))
+    → r₂ ≡ put r₁ (256 * (64 + getD (claimed places₁ (sourcesPlace a t) (fresh + 1)) (sourcesPlace a t) 0) + p)
+    → r₃ ≡ put r₂ (256 * (63 + 2 * a) + p) → r₄ ≡ put r₃ (256 * (64 + 2 * a) + t) → r₅ ≡ put r₄ (64 * t + (a - 1))
+    → (places₂ ≡ placed places fresh p a t) × (r₅ ≡ rowOf (length old) (λ y. hit (placed places fresh p a t) p a t y || inRow old y))
 unfolding hits
-all-put places fresh p a t hp old {places₁} {places₂} {r₁} {r₂} {r₃} {r₄} {r₅} {r₆} f₁ e₁ f₂ e₂ e₃ e₄ e₅ e₆ =
+all-put places fresh p a t hp old {places₁} {places₂} {r₁} {r₂} {r₃} {r₄} {r₅} f₁ e₁ f₂ e₂ e₃ e₄ e₅ =
     let x₁ = targetsPlace a p in
     let x₂ = sourcesPlace a t in
     let to = placed places fresh p a t in
     let two : claimed places₁ x₂ (fresh + 1) ≡ to = ap (λ (l : List ℕ). claimed l x₂ (fresh + 1)) f₁ in
     let u : getD (claimed places x₁ fresh) x₁ 0 ≡ getD to x₁ 0 = sym (claimed-other (claimed places x₁ fresh) x₂ (fresh + 1) x₁ (λ e. omega arith)) in
-    let g₁ : r₁ ≡ rowOf (length old) (λ y. eqb y (256 * (65 + getD to x₁ 0) + t) || inRow old y) =
-    e₁ ∙ ap (λ (n : ℕ). rowOf (length old) (λ y. eqb y (256 * (65 + n) + t) || inRow old y)) u in
-    let g₂ = e₂ ∙ put-more old (λ y. eqb y (256 * (65 + getD to x₁ 0) + t)) (256 * (65 + getD (claimed places₁ x₂ (fresh + 1)) x₂ 0) + p) g₁
-    ∙ ap (λ (l : List ℕ). rowOf (length old) (λ y. (eqb y (256 * (65 + getD l x₂ 0) + p) || eqb y (256 * (65 + getD to x₁ 0) + t)) || inRow old y)) two in
-    let g₃ = e₃ ∙ put-more old _ (256 * (64 + 2 * a) + p) g₂ in
-    let g₄ = e₄ ∙ put-more old _ (256 * (65 + 2 * a) + t) g₃ in
-    let g₅ = e₅ ∙ put-more old _ (64 * t + (a - 1)) g₄ in
-    (f₂ ∙ two, e₆ ∙ put-more old _ (64 * 256 + (a - 1)) g₅)
+    let g₁ : r₁ ≡ rowOf (length old) (λ y. eqb y (256 * (64 + getD to x₁ 0) + t) || inRow old y) =
+    e₁ ∙ ap (λ (n : ℕ). rowOf (length old) (λ y. eqb y (256 * (64 + n) + t) || inRow old y)) u in
+    let g₂ = e₂ ∙ put-more old (λ y. eqb y (256 * (64 + getD to x₁ 0) + t)) (256 * (64 + getD (claimed places₁ x₂ (fresh + 1)) x₂ 0) + p) g₁
+    ∙ ap (λ (l : List ℕ). rowOf (length old) (λ y. (eqb y (256 * (64 + getD l x₂ 0) + p) || eqb y (256 * (64 + getD to x₁ 0) + t)) || inRow old y)) two in
+    let g₃ = e₃ ∙ put-more old _ (256 * (63 + 2 * a) + p) g₂ in
+    let g₄ = e₄ ∙ put-more old _ (256 * (64 + 2 * a) + t) g₃ in
+    (f₂ ∙ two, e₅ ∙ put-more old _ (64 * t + (a - 1)) g₄)
 
 -- ---- what is put in, case by case
 
 module _ (u v p a t y : ℕ) where
-  pub hits-cases : {C : Type 0} → T (hits u v p a t y) → (y ≡ 256 * (65 + u) + t → C) → (y ≡ 256 * (65 + v) + p → C) → (y ≡ 256 * (64 + 2 * a) + p → C)
-      → (y ≡ 256 * (65 + 2 * a) + t → C) → (y ≡ 64 * t + (a - 1) → C) → (y ≡ 64 * 256 + (a - 1) → C) → C
+  pub hits-cases : {C : Type 0} → T (hits u v p a t y) → (y ≡ 256 * (64 + u) + t → C) → (y ≡ 256 * (64 + v) + p → C) → (y ≡ 256 * (63 + 2 * a) + p → C)
+      → (y ≡ 256 * (64 + 2 * a) + t → C) → (y ≡ 64 * t + (a - 1) → C) → C
   unfolding hits
-  hits-cases h c₁ c₂ c₃ c₄ c₅ c₆ =
-      or-elim (eqb y (64 * 256 + (a - 1))) _ (λ e. c₆ (eqb→eq y _ e)) (λ h₅.
+  hits-cases h c₁ c₂ c₃ c₄ c₅ =
       or-elim (eqb y (64 * t + (a - 1))) _ (λ e. c₅ (eqb→eq y _ e)) (λ h₄.
-      or-elim (eqb y (256 * (65 + 2 * a) + t)) _ (λ e. c₄ (eqb→eq y _ e)) (λ h₃.
-      or-elim (eqb y (256 * (64 + 2 * a) + p)) _ (λ e. c₃ (eqb→eq y _ e)) (λ h₂.
-      or-elim (eqb y (256 * (65 + v) + p)) _ (λ e. c₂ (eqb→eq y _ e)) (λ e. c₁ (eqb→eq y _ e)) h₂) h₃) h₄) h₅) h
-
-  pub hits-used : y ≡ 64 * 256 + (a - 1) → T (hits u v p a t y)
-  unfolding hits
-  hits-used e = or-left (eqb y (64 * 256 + (a - 1))) _ (eqb-of e)
+      or-elim (eqb y (256 * (64 + 2 * a) + t)) _ (λ e. c₄ (eqb→eq y _ e)) (λ h₃.
+      or-elim (eqb y (256 * (63 + 2 * a) + p)) _ (λ e. c₃ (eqb→eq y _ e)) (λ h₂.
+      or-elim (eqb y (256 * (64 + v) + p)) _ (λ e. c₂ (eqb→eq y _ e)) (λ e. c₁ (eqb→eq y _ e)) h₂) h₃) h₄) h
 
   pub hits-actions : y ≡ 64 * t + (a - 1) → T (hits u v p a t y)
   unfolding hits
-  hits-actions e = or-right (eqb y (64 * 256 + (a - 1))) _ (or-left (eqb y (64 * t + (a - 1))) _ (eqb-of e))
+  hits-actions e = or-left (eqb y (64 * t + (a - 1))) _ (eqb-of e)
 
-  pub hits-entered : y ≡ 256 * (65 + 2 * a) + t → T (hits u v p a t y)
+  pub hits-entered : y ≡ 256 * (64 + 2 * a) + t → T (hits u v p a t y)
   unfolding hits
-  hits-entered e = or-right (eqb y (64 * 256 + (a - 1))) _ (or-right (eqb y (64 * t + (a - 1))) _ (or-left (eqb y (256 * (65 + 2 * a) + t)) _ (eqb-of e)))
+  hits-entered e = or-right (eqb y (64 * t + (a - 1))) _ (or-left (eqb y (256 * (64 + 2 * a) + t)) _ (eqb-of e))
 
-  pub hits-enabled : y ≡ 256 * (64 + 2 * a) + p → T (hits u v p a t y)
+  pub hits-enabled : y ≡ 256 * (63 + 2 * a) + p → T (hits u v p a t y)
   unfolding hits
-  hits-enabled e = or-right (eqb y (64 * 256 + (a - 1))) _ (or-right (eqb y (64 * t + (a - 1))) _ (or-right (eqb y (256 * (65 + 2 * a) + t)) _
-      (or-left (eqb y (256 * (64 + 2 * a) + p)) _ (eqb-of e))))
+  hits-enabled e = or-right (eqb y (64 * t + (a - 1))) _ (or-right (eqb y (256 * (64 + 2 * a) + t)) _
+      (or-left (eqb y (256 * (63 + 2 * a) + p)) _ (eqb-of e)))
 
-  pub hits-sources : y ≡ 256 * (65 + v) + p → T (hits u v p a t y)
+  pub hits-sources : y ≡ 256 * (64 + v) + p → T (hits u v p a t y)
   unfolding hits
-  hits-sources e = or-right (eqb y (64 * 256 + (a - 1))) _ (or-right (eqb y (64 * t + (a - 1))) _ (or-right (eqb y (256 * (65 + 2 * a) + t)) _
-      (or-right (eqb y (256 * (64 + 2 * a) + p)) _ (or-left (eqb y (256 * (65 + v) + p)) _ (eqb-of e)))))
+  hits-sources e = or-right (eqb y (64 * t + (a - 1))) _ (or-right (eqb y (256 * (64 + 2 * a) + t)) _
+      (or-right (eqb y (256 * (63 + 2 * a) + p)) _ (or-left (eqb y (256 * (64 + v) + p)) _ (eqb-of e))))
 
-  pub hits-targets : y ≡ 256 * (65 + u) + t → T (hits u v p a t y)
+  pub hits-targets : y ≡ 256 * (64 + u) + t → T (hits u v p a t y)
   unfolding hits
-  hits-targets e = or-right (eqb y (64 * 256 + (a - 1))) _ (or-right (eqb y (64 * t + (a - 1))) _ (or-right (eqb y (256 * (65 + 2 * a) + t)) _
-      (or-right (eqb y (256 * (64 + 2 * a) + p)) _ (or-right (eqb y (256 * (65 + v) + p)) _ (eqb-of e)))))
+  hits-targets e = or-right (eqb y (64 * t + (a - 1))) _ (or-right (eqb y (256 * (64 + 2 * a) + t)) _
+      (or-right (eqb y (256 * (63 + 2 * a) + p)) _ (or-right (eqb y (256 * (64 + v) + p)) _ (eqb-of e))))
 
 -- ---- transition by transition
 

@@ -18,17 +18,17 @@ use Rattle.transitions.specs.Table.{actionsOf, countOf, sourceAt, actionAt, tar
 use Rattle.transitions.proofs.Entries.{entry-leads, entry-of, table-formed}
 use Rattle.adjacency.specs.Adjacency.{Index}
 use Rattle.adjacency.specs.Building.{targetsPlace, sourcesPlace, hitAt, Building}
-use Rattle.adjacency.proofs.Building.{hits-cases, hits-used, hits-actions, hits-entered, hits-enabled, hits-sources, hits-targets}
+use Rattle.adjacency.proofs.Building.{hits-cases, hits-actions, hits-entered, hits-enabled, hits-sources, hits-targets}
 
 -- every place's row is there
-pub building-room : {t places rows : List ℕ} {i : ℕ} → Building t i places rows → (n : ℕ) → (66 + 2 * actionsOf t + 2 * i) * 4 ≤ n → (x : ℕ)
-    → (65 + getD places x 0) * 4 + 4 ≤ n
+pub building-room : {t places rows : List ℕ} {i : ℕ} → Building t i places rows → (n : ℕ) → (65 + 2 * actionsOf t + 2 * i) * 4 ≤ n → (x : ℕ)
+    → (64 + getD places x 0) * 4 + 4 ≤ n
 building-room {t} {places} {rows} {i} built n wide x = ⊎-elim
     (λ (e : getD places x 0 ≡ 0). omega (arith, e))
     (λ (l : (2 * actionsOf t + 1 ≤ getD places x 0) × (getD places x 0 < 2 * actionsOf t + 1 + 2 * i)). omega (arith, l .1)) (built .placing .range x)
 
 module _ {t places rows : List ℕ} (ok : Formed t) (built : Building t (countOf t) places rows) (long : 512 * (actionsOf t + 1) ≤ length places)
-    (wide : (66 + 2 * actionsOf t + 2 * countOf t) * 4 ≤ length rows) where
+    (wide : (65 + 2 * actionsOf t + 2 * countOf t) * 4 ≤ length rows) where
   abbrev m : ℕ
   m = actionsOf t
 
@@ -44,7 +44,7 @@ module _ {t places rows : List ℕ} (ok : Formed t) (built : Building t (countOf
       let e : inRow rows y ≡ anyBelow (countOf t) (λ j. hitAt t places j y) = ap (λ (l : List ℕ). inRow l y) (built .members) ∙ inRow-of (length rows) _ y h in
       (λ u. any-iff (countOf t) (λ j. hitAt t places j y) .0 (subst T e u), λ s. subst⁻¹ T e (any-iff (countOf t) (λ j. hitAt t places j y) .1 s))
 
-  room : (x : ℕ) → (65 + P x) * 4 + 4 ≤ length rows
+  room : (x : ℕ) → (64 + P x) * 4 + 4 ≤ length rows
   room = building-room built (length rows) wide
 
   range : (x : ℕ) → (P x ≡ 0) ⊎ (2 * m + 1 ≤ P x)
@@ -72,35 +72,35 @@ module _ {t places rows : List ℕ} (ok : Formed t) (built : Building t (countOf
   }
 
   -- the cases of a member that transition j put in
-  cases : {C : Type 0} (j y : ℕ) → T (hitAt t places j y) → (y ≡ 256 * (65 + P (targetsPlace (actionAt t j) (sourceAt t j))) + targetAt t j → C)
-      → (y ≡ 256 * (65 + P (sourcesPlace (actionAt t j) (targetAt t j))) + sourceAt t j → C) → (y ≡ 256 * (64 + 2 * actionAt t j) + sourceAt t j → C)
-      → (y ≡ 256 * (65 + 2 * actionAt t j) + targetAt t j → C) → (y ≡ 64 * targetAt t j + (actionAt t j - 1) → C) → (y ≡ 64 * 256 + (actionAt t j - 1) → C) → C
+  cases : {C : Type 0} (j y : ℕ) → T (hitAt t places j y) → (y ≡ 256 * (64 + P (targetsPlace (actionAt t j) (sourceAt t j))) + targetAt t j → C)
+      → (y ≡ 256 * (64 + P (sourcesPlace (actionAt t j) (targetAt t j))) + sourceAt t j → C) → (y ≡ 256 * (63 + 2 * actionAt t j) + sourceAt t j → C)
+      → (y ≡ 256 * (64 + 2 * actionAt t j) + targetAt t j → C) → (y ≡ 64 * targetAt t j + (actionAt t j - 1) → C) → C
   cases j y u = hits-cases (P (targetsPlace (actionAt t j) (sourceAt t j))) (P (sourcesPlace (actionAt t j) (targetAt t j))) (sourceAt t j) (actionAt t j)
       (targetAt t j) y u
 
   -- no row of a place is one of an action, or among the words of the states
-  apart : (x r : ℕ) → r < 256 → (j : ℕ) → Facts j → (256 * (65 + P x) + r ≡ 256 * (64 + 2 * actionAt t j) + sourceAt t j → ⊥)
-      × (256 * (65 + P x) + r ≡ 256 * (65 + 2 * actionAt t j) + targetAt t j → ⊥)
+  apart : (x r : ℕ) → r < 256 → (j : ℕ) → Facts j → (256 * (64 + P x) + r ≡ 256 * (63 + 2 * actionAt t j) + sourceAt t j → ⊥)
+      × (256 * (64 + P x) + r ≡ 256 * (64 + 2 * actionAt t j) + targetAt t j → ⊥)
   apart x r hr j f = (
     λ e. ⊎-elim (λ (z : P x ≡ 0). omega (arith, e, z, f .source)) (λ (l : 2 * m + 1 ≤ P x). omega (arith, e, l, f .source, f .action)) (range x),
     λ e. ⊎-elim (λ (z : P x ≡ 0). omega (arith, e, z, f .target, f .named)) (λ (l : 2 * m + 1 ≤ P x). omega (arith, e, l, f .target, f .action)) (range x),
   )
 
-  targets : (a p q : ℕ) → p < 256 → q < 256 → setAt rows (65 + P (targetsPlace a p)) q ≡ tableLts t .transition p a q
+  targets : (a p q : ℕ) → p < 256 → q < 256 → setAt rows (64 + P (targetsPlace a p)) q ≡ tableLts t .transition p a q
   targets a p q hp hq = test-ext _ _ to from
     where
       x : ℕ
       x = targetsPlace a p
 
-      mem : T (setAt rows (65 + P x) q) ↔ ((j : ℕ) × (j < countOf t) × T (hitAt t places j (256 * (65 + P x) + q)))
-      mem = member (256 * (65 + P x) + q) (omega (arith, room x))
+      mem : T (setAt rows (64 + P x) q) ↔ ((j : ℕ) × (j < countOf t) × T (hitAt t places j (256 * (64 + P x) + q)))
+      mem = member (256 * (64 + P x) + q) (omega (arith, room x))
 
-      to : T (setAt rows (65 + P x) q) → leads p a q
+      to : T (setAt rows (64 + P x) q) → leads p a q
       to u =
           let s = mem .0 u in
           let j = s .0 in
           let f = facts j (s .1) in
-          cases j (256 * (65 + P x) + q) (s .2)
+          cases j (256 * (64 + P x) + q) (s .2)
           (λ e.
           let row : P x ≡ P (targetsPlace (actionAt t j) (sourceAt t j)) = omega (arith, e, f .target) in
           let same : x ≡ targetsPlace (actionAt t j) (sourceAt t j) = built .placing .only _ _ row (omega (arith, row, f .leaving)) in
@@ -110,31 +110,30 @@ module _ {t places rows : List ℕ} (ok : Formed t) (built : Building t (countOf
           let same : x ≡ sourcesPlace (actionAt t j) (targetAt t j) = built .placing .only _ _ row (omega (arith, row, f .entering)) in
           absurd (omega (arith, same, f .target)))
           (λ e. absurd (apart x q hq j f .0 e)) (λ e. absurd (apart x q hq j f .1 e)) (λ e. absurd (omega (arith, e, f .target, f .action, ok .labels)))
-          (λ e. absurd (omega (arith, e, f .action, ok .labels)))
 
-      from : leads p a q → T (setAt rows (65 + P x) q)
+      from : leads p a q → T (setAt rows (64 + P x) q)
       from u =
           let s = entry-of t p a q u in
           let j = s .0 in
           let same : x ≡ targetsPlace (actionAt t j) (sourceAt t j) = omega (arith, s .2, s .3) in
           let row : P x ≡ P (targetsPlace (actionAt t j) (sourceAt t j)) = ap (λ (z : ℕ). getD places z 0) same in
-          mem .1 (j, s .1, hits-targets _ _ (sourceAt t j) (actionAt t j) (targetAt t j) (256 * (65 + P x) + q) (omega (arith, row, s .4)))
+          mem .1 (j, s .1, hits-targets _ _ (sourceAt t j) (actionAt t j) (targetAt t j) (256 * (64 + P x) + q) (omega (arith, row, s .4)))
 
-  sources : (a p q : ℕ) → p < 256 → q < 256 → setAt rows (65 + P (sourcesPlace a q)) p ≡ tableLts t .transition p a q
+  sources : (a p q : ℕ) → p < 256 → q < 256 → setAt rows (64 + P (sourcesPlace a q)) p ≡ tableLts t .transition p a q
   sources a p q hp hq = test-ext _ _ to from
     where
       x : ℕ
       x = sourcesPlace a q
 
-      mem : T (setAt rows (65 + P x) p) ↔ ((j : ℕ) × (j < countOf t) × T (hitAt t places j (256 * (65 + P x) + p)))
-      mem = member (256 * (65 + P x) + p) (omega (arith, room x))
+      mem : T (setAt rows (64 + P x) p) ↔ ((j : ℕ) × (j < countOf t) × T (hitAt t places j (256 * (64 + P x) + p)))
+      mem = member (256 * (64 + P x) + p) (omega (arith, room x))
 
-      to : T (setAt rows (65 + P x) p) → leads p a q
+      to : T (setAt rows (64 + P x) p) → leads p a q
       to u =
           let s = mem .0 u in
           let j = s .0 in
           let f = facts j (s .1) in
-          cases j (256 * (65 + P x) + p) (s .2)
+          cases j (256 * (64 + P x) + p) (s .2)
           (λ e.
           let row : P x ≡ P (targetsPlace (actionAt t j) (sourceAt t j)) = omega (arith, e, f .target) in
           let same : x ≡ targetsPlace (actionAt t j) (sourceAt t j) = built .placing .only _ _ row (omega (arith, row, f .leaving)) in
@@ -144,21 +143,20 @@ module _ {t places rows : List ℕ} (ok : Formed t) (built : Building t (countOf
           let same : x ≡ sourcesPlace (actionAt t j) (targetAt t j) = built .placing .only _ _ row (omega (arith, row, f .entering)) in
           entry-leads t j (s .1) (omega (arith, e, row)) (omega (arith, same, f .target)) (omega (arith, same, f .target)))
           (λ e. absurd (apart x p hp j f .0 e)) (λ e. absurd (apart x p hp j f .1 e)) (λ e. absurd (omega (arith, e, f .target, f .action, ok .labels)))
-          (λ e. absurd (omega (arith, e, f .action, ok .labels)))
 
-      from : leads p a q → T (setAt rows (65 + P x) p)
+      from : leads p a q → T (setAt rows (64 + P x) p)
       from u =
           let s = entry-of t p a q u in
           let j = s .0 in
           let same : x ≡ sourcesPlace (actionAt t j) (targetAt t j) = omega (arith, s .3, s .4) in
           let row : P x ≡ P (sourcesPlace (actionAt t j) (targetAt t j)) = ap (λ (z : ℕ). getD places z 0) same in
-          mem .1 (j, s .1, hits-sources _ _ (sourceAt t j) (actionAt t j) (targetAt t j) (256 * (65 + P x) + p) (omega (arith, row, s .2)))
+          mem .1 (j, s .1, hits-sources _ _ (sourceAt t j) (actionAt t j) (targetAt t j) (256 * (64 + P x) + p) (omega (arith, row, s .2)))
 
-  enabled : (a p : ℕ) → 1 ≤ a → a ≤ m → p < 256 → setAt rows (64 + 2 * a) p ≡ into (tableLts t) a (λ q. true) p
+  enabled : (a p : ℕ) → 1 ≤ a → a ≤ m → p < 256 → setAt rows (63 + 2 * a) p ≡ into (tableLts t) a (λ q. true) p
   enabled a p la ha hp = test-ext _ _ to from
     where
       y : ℕ
-      y = 256 * (64 + 2 * a) + p
+      y = 256 * (63 + 2 * a) + p
 
       to : T (inRow rows y) → T (into (tableLts t) a (λ q. true) p)
       to u =
@@ -170,7 +168,6 @@ module _ {t places rows : List ℕ} (ok : Formed t) (built : Building t (countOf
           (λ e. into-from (table-formed t ok) a (λ q. true) p
           (targetAt t j, entry-leads t j (s .1) (omega (arith, e, f .source)) (omega (arith, e, f .source)) refl, tt))
           (λ e. absurd (omega (arith, e, f .target))) (λ e. absurd (omega (arith, e, f .target, f .action, ok .labels)))
-          (λ e. absurd (omega (arith, e, f .action, ok .labels)))
 
       from : T (into (tableLts t) a (λ q. true) p) → T (inRow rows y)
       from u =
@@ -191,11 +188,11 @@ module _ {t places rows : List ℕ} (ok : Formed t) (built : Building t (countOf
       let s = entry-of t (i .0) a q (i .2) in
       (s .0, s .1, s .3, s .4)
 
-  entered : (a q : ℕ) → 1 ≤ a → a ≤ m → q < 256 → setAt rows (65 + 2 * a) q ≡ enters a q
+  entered : (a q : ℕ) → 1 ≤ a → a ≤ m → q < 256 → setAt rows (64 + 2 * a) q ≡ enters a q
   entered a q la ha hq = test-ext _ _ to from
     where
       y : ℕ
-      y = 256 * (65 + 2 * a) + q
+      y = 256 * (64 + 2 * a) + q
 
       to : T (inRow rows y) → T (enters a q)
       to u =
@@ -206,7 +203,7 @@ module _ {t places rows : List ℕ} (ok : Formed t) (built : Building t (countOf
           (λ e. absurd (omega (arith, e, f .leaving, f .target))) (λ e. absurd (omega (arith, e, f .entering, f .source)))
           (λ e. absurd (omega (arith, e, f .source)))
           (λ e. enters-by a q j (s .1) (omega (arith, e, f .target)) (omega (arith, e, f .target)))
-          (λ e. absurd (omega (arith, e, f .target, f .action, ok .labels))) (λ e. absurd (omega (arith, e, f .action, ok .labels)))
+          (λ e. absurd (omega (arith, e, f .target, f .action, ok .labels)))
 
       from : T (enters a q) → T (inRow rows y)
       from u =
@@ -214,17 +211,16 @@ module _ {t places rows : List ℕ} (ok : Formed t) (built : Building t (countOf
           let j = s .0 in
           member y (omega arith) .1 (j, s .1, hits-entered _ _ (sourceAt t j) (actionAt t j) (targetAt t j) y (omega (arith, s .2, s .3)))
 
-  -- a member of the words of the states, and of the word behind them
-  word-member : (x i : ℕ) → x ≤ 256 → i < 64 → T (inRow rows (x * 64 + i)) → (j : ℕ) × (j < countOf t) × (actionAt t j ≡ i + 1) × ((x < 256) → targetAt t j ≡ x)
+  -- a member of the words of the states
+  word-member : (x i : ℕ) → x < 256 → i < 64 → T (inRow rows (x * 64 + i)) → (j : ℕ) × (j < countOf t) × (actionAt t j ≡ i + 1) × (targetAt t j ≡ x)
   word-member x i hx hi u =
       let y = x * 64 + i in
       let s = member y (omega arith) .0 u in
       let j = s .0 in
       let f = facts j (s .1) in
-      let found : (actionAt t j ≡ i + 1) × ((x < 256) → targetAt t j ≡ x) = cases j y (s .2)
-      (λ e. absurd (omega (arith, e))) (λ e. absurd (omega (arith, e))) (λ e. absurd (omega (arith, e))) (λ e. absurd (omega (arith, e)))
-      (λ e. (omega (arith, e, f .named, f .action, ok .labels), λ _. omega (arith, e, f .action, f .named, ok .labels)))
-      (λ e. (omega (arith, e, f .named, f .action, ok .labels), λ l. absurd (omega (arith, e, l, f .action, f .named, ok .labels)))) in
+      let found : (actionAt t j ≡ i + 1) × (targetAt t j ≡ x) = cases j y (s .2)
+      (λ e. absurd (omega (arith, e))) (λ e. absurd (omega (arith, e))) (λ e. absurd (omega (arith, e, f .named))) (λ e. absurd (omega (arith, e)))
+      (λ e. (omega (arith, e, f .named, f .action, ok .labels), omega (arith, e, f .action, f .named, ok .labels))) in
       (j, s .1, found .0, found .1)
 
   actions : (a q : ℕ) → 1 ≤ a → a ≤ m → q < 256 → bit (getD rows q 0) (a - 1) ≡ enters a q
@@ -235,8 +231,8 @@ module _ {t places rows : List ℕ} (ok : Formed t) (built : Building t (countOf
 
       to : T (inRow rows y) → T (enters a q)
       to u =
-          let s = word-member q (a - 1) (omega arith) (omega (arith, ok .labels)) u in
-          enters-by a q (s .0) (s .1) (omega (arith, s .2)) (s .3 hq)
+          let s = word-member q (a - 1) hq (omega (arith, ok .labels)) u in
+          enters-by a q (s .0) (s .1) (omega (arith, s .2)) (s .3)
 
       from : T (enters a q) → T (inRow rows y)
       from u =
@@ -244,25 +240,7 @@ module _ {t places rows : List ℕ} (ok : Formed t) (built : Building t (countOf
           let j = s .0 in
           member y (omega (arith, ok .labels)) .1 (j, s .1, hits-actions _ _ (sourceAt t j) (actionAt t j) (targetAt t j) y (omega (arith, s .2, s .3)))
 
-  used : (a : ℕ) → 1 ≤ a → a ≤ m → bit (getD rows 256 0) (a - 1) ≡ anyBelow 256 (enters a)
-  used a la ha = sym (inRow-at rows 256 (a - 1) (omega (arith, ok .labels))) ∙ test-ext _ _ to from
-    where
-      y : ℕ
-      y = 256 * 64 + (a - 1)
-
-      to : T (inRow rows y) → T (anyBelow 256 (enters a))
-      to u =
-          let s = word-member 256 (a - 1) (omega arith) (omega (arith, ok .labels)) u in
-          any-iff 256 (enters a) .1 (targetAt t (s .0), facts (s .0) (s .1) .target, enters-by a (targetAt t (s .0)) (s .0) (s .1) (omega (arith, s .2)) refl)
-
-      from : T (anyBelow 256 (enters a)) → T (inRow rows y)
-      from u =
-          let i = any-iff 256 (enters a) .0 u in
-          let s = enters-of a (i .0) (i .2) in
-          let j = s .0 in
-          member y (omega (arith, ok .labels)) .1 (j, s .1, hits-used _ _ (sourceAt t j) (actionAt t j) (targetAt t j) y (omega (arith, s .2)))
-
-  no-more : (j x : ℕ) → x ≤ 256 → m ≤ j → j < 64 → bit (getD rows x 0) j ≡ false
+  no-more : (j x : ℕ) → x < 256 → m ≤ j → j < 64 → bit (getD rows x 0) j ≡ false
   no-more j x hx lj hj = sym (inRow-at rows x j hj) ∙ test-ext _ false none (λ u. absurd u)
     where
       none : T (inRow rows (x * 64 + j)) → T false
@@ -279,6 +257,5 @@ module _ {t places rows : List ℕ} (ok : Formed t) (built : Building t (countOf
     enabled = enabled;
     entered = entered;
     actions = actions;
-    used = used;
     no-more = no-more;
   }

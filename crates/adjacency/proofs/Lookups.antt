@@ -14,7 +14,7 @@ use Rattle.lts.proofs.Below.{any-cong, true-T}
 use Rattle.lts.proofs.Bounded.{and-iff, not-iff, any-iff, or-elim, test-ext}
 use Rattle.lts.proofs.System.{into-to, into-from}
 use Rattle.rows.specs.Rows.{bit, inRow, rowOf, wordOf}
-use Rattle.rows.proofs.Bits.{bit-wordOf, wordOf-lt}
+use Rattle.rows.proofs.Bits.{bit-of-zero, bit-wordOf, wordOf-lt, word-ext}
 use Rattle.rows.proofs.Rows.{inRow-at, inRow-of, inRow-zeros, getD-zeros, rowOf-cong, row-ext}
 use Rattle.sets.specs.Sets.{setAt}
 use Rattle.sets.proofs.Lists.{set-in}
@@ -25,11 +25,11 @@ use Rattle.adjacency.proofs.Words.{any-add}
 
 -- the states that a transition by a from q leads to, as the rows say
 abbrev pub targetsOf : List ℕ → List ℕ → ℕ → ℕ → Set
-targetsOf places rows a q = setAt rows (65 + getD places (512 * a + q) 0)
+targetsOf places rows a q = setAt rows (64 + getD places (512 * a + q) 0)
 
 -- and those that one into q comes from
 abbrev pub sourcesOf : List ℕ → List ℕ → ℕ → ℕ → Set
-sourcesOf places rows a q = setAt rows (65 + getD places (512 * a + 256 + q) 0)
+sourcesOf places rows a q = setAt rows (64 + getD places (512 * a + 256 + q) 0)
 
 -- ---- the sources of the states of a set, word by word
 
@@ -52,6 +52,29 @@ module _ (places rows : List ℕ) (a : ℕ) (met : List ℕ) where
       let same : c * 64 + i ≡ 64 * c + i = omega arith in
       ap (λ (b : Bool). b && sourcesOf places rows a (64 * c + i) x) (sym (inRow-at met c i l) ∙ ap (inRow met) same)))
       ∙ sym (any-add (64 * c) 64 (λ q. inRow met q && sourcesOf places rows a q x)) ∙ ap (λ (n : ℕ). found n x) more)
+
+-- ---- the words of the states of a set, joined word by word
+
+module _ (rows set : List ℕ) where
+  abbrev pub entering : ℕ → ℕ
+  entering n = wordOf 64 (λ j. anyBelow n (λ q. inRow set q && bit (getD rows q 0) j))
+
+  pub entering-none : 0 ≡ entering (64 * 0)
+  unfolding anyBelow
+  entering-none = word-ext 64 _ (pow-pos 64) (λ j h. bit-of-zero j)
+
+  pub entering-more : (c : ℕ) {out next : ℕ} → out ≡ entering (64 * c)
+      → next ≡ wordOf 64 (λ j. bit out j || anyBelow 64 (λ i. bit (getD set c 0) i && bit (getD rows (64 * c + i) 0) j)) → next ≡ entering (64 * (c + 1))
+  entering-more c {out} {next} now e =
+      let more : 64 * c + 64 ≡ 64 * (c + 1) = omega arith in
+      word-ext 64 _ (subst (λ (x : ℕ). x < 2 ^ 64) (sym e) (wordOf-lt 64 _)) (λ j h.
+      ap (λ (x : ℕ). bit x j) e ∙ bit-wordOf 64 _ j h
+      ∙ ap₂ _||_ (ap (λ (x : ℕ). bit x j) now ∙ bit-wordOf 64 _ j h)
+      (any-cong 64 _ _ (λ i l.
+      let same : c * 64 + i ≡ 64 * c + i = omega arith in
+      ap (λ (b : Bool). b && bit (getD rows (64 * c + i) 0) j) (sym (inRow-at set c i l) ∙ ap (inRow set) same)))
+      ∙ sym (any-add (64 * c) 64 (λ q. inRow set q && bit (getD rows q 0) j))
+      ∙ ap (λ (n : ℕ). anyBelow n (λ q. inRow set q && bit (getD rows q 0) j)) more)
 
 -- ---- the states of a set that lack a transition, word by word
 
@@ -77,7 +100,7 @@ module _ {t places rows : List ℕ} (ix : Index t places rows) (a : ℕ) (named 
   target-low p q u = let s = entry-of t p a q u in omega (arith, s .4, ix .formed .target (s .0) (s .1), ix .formed .states)
 
   -- the sources of the states of the set that are entered are those of the states of the set
-  pub found-into : (set : List ℕ) {ent met out : List ℕ} → ent ≡ rowOf 4 (setAt rows (65 + 2 * a)) → met ≡ rowOf 4 (λ q. inRow set q && inRow ent q)
+  pub found-into : (set : List ℕ) {ent met out : List ℕ} → ent ≡ rowOf 4 (setAt rows (64 + 2 * a)) → met ≡ rowOf 4 (λ q. inRow set q && inRow ent q)
       → out ≡ rowOf 4 (found places rows a met 256) → out ≡ rowOf 4 (into (tableLts t) a (inRow set))
   found-into set {ent} {met} een emt e = e ∙ rowOf-cong 4 _ _ (λ x h. test-ext _ _ (to x h) (from x h))
     where
@@ -136,7 +159,7 @@ module _ {t places rows : List ℕ} (ix : Index t places rows) (a : ℕ) (named 
 
   -- and where the two have every state, from all that have a transition
   pub removed-whole : (inside outside : List ℕ) {able set out : List ℕ} → ((q : ℕ) → q < statesOf t → inRow inside q || inRow outside q ≡ true)
-      → able ≡ rowOf 4 (setAt rows (64 + 2 * a)) → set ≡ rowOf 4 (into (tableLts t) a (inRow inside)) → out ≡ rowOf 4 (λ q. inRow able q && not (inRow set q))
+      → able ≡ rowOf 4 (setAt rows (63 + 2 * a)) → set ≡ rowOf 4 (into (tableLts t) a (inRow inside)) → out ≡ rowOf 4 (λ q. inRow able q && not (inRow set q))
       → out ≡ rowOf 4 (remove (tableLts t) a (inRow inside) (inRow outside))
   unfolding remove
   removed-whole inside outside whole ea es e =

@@ -57,13 +57,13 @@ module _ (places : List ℕ) (x fresh : ℕ) where
     claimed-some l = ⊎-elim (λ e. omega (arith, e)) (λ c. omega (arith, c .0, c .1)) claimed-at
 
     -- a row that is below both bounds
-    pub claimed-room : (n : ℕ) → (65 + fresh) * 4 + 4 ≤ n → (65 + getD places x 0) * 4 + 4 ≤ n → (65 + getD (claimed places x fresh) x 0) * 4 + 4 ≤ n
+    pub claimed-room : (n : ℕ) → (64 + fresh) * 4 + 4 ≤ n → (64 + getD places x 0) * 4 + 4 ≤ n → (64 + getD (claimed places x fresh) x 0) * 4 + 4 ≤ n
     claimed-room n a b = ⊎-elim (λ e. omega (arith, e)) (λ c. omega (arith, c .1)) claimed-at
 
-    pub claimed-rooms : (n : ℕ) → (65 + fresh) * 4 + 4 ≤ n → ((y : ℕ) → (65 + getD places y 0) * 4 + 4 ≤ n) → (y : ℕ)
-        → (65 + getD (claimed places x fresh) y 0) * 4 + 4 ≤ n
+    pub claimed-rooms : (n : ℕ) → (64 + fresh) * 4 + 4 ≤ n → ((y : ℕ) → (64 + getD places y 0) * 4 + 4 ≤ n) → (y : ℕ)
+        → (64 + getD (claimed places x fresh) y 0) * 4 + 4 ≤ n
     claimed-rooms n a b y = ⊎-elim
-        (λ (e : y ≡ x). subst⁻¹ (λ (z : ℕ). (65 + getD (claimed places x fresh) z 0) * 4 + 4 ≤ n) e (claimed-room n a (b x)))
+        (λ (e : y ≡ x). subst⁻¹ (λ (z : ℕ). (64 + getD (claimed places x fresh) z 0) * 4 + 4 ≤ n) e (claimed-room n a (b x)))
         (λ (ne : y ≡ x → ⊥). omega (arith, claimed-other y ne, b y)) (same y x)
 
 -- one row more

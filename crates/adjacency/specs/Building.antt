@@ -25,9 +25,8 @@ sourcesPlace a q = 512 * a + 256 + q
 -- the members that the transition from p by a to t puts in, where the rows of its targets and its sources are numbers u and v
 unfoldable pub hits : ℕ → ℕ → ℕ → ℕ → ℕ → Set
 hits u v p a t y =
-    eqb y (64 * 256 + (a - 1))
-    || (eqb y (64 * t + (a - 1))
-    || (eqb y (256 * (65 + 2 * a) + t) || (eqb y (256 * (64 + 2 * a) + p) || (eqb y (256 * (65 + v) + p) || eqb y (256 * (65 + u) + t)))))
+    eqb y (64 * t + (a - 1))
+    || (eqb y (256 * (64 + 2 * a) + t) || (eqb y (256 * (63 + 2 * a) + p) || (eqb y (256 * (64 + v) + p) || eqb y (256 * (64 + u) + t))))
 
 abbrev pub hit : List ℕ → ℕ → ℕ → ℕ → Set
 hit places p a t = hits (getD places (targetsPlace a p) 0) (getD places (sourcesPlace a t) 0) p a t

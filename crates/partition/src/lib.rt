@@ -166,18 +166,11 @@ pub fn single_rows(blocks: &[u64], members: [u64; 4]) -> [u64; 4]
     out
 }
 
-// Number j, ascending, of the states in the row's first k words.
-fn member_at(row: &[u64], k: usize, j: usize) -> usize
-    requires { ⌜ (k ≤ length (now row)) × (k ≤ 1024) × (j < length (passing (k * 64) (inRow (now row)))) ⌝ }
-    ensures { λ r. ⌜ r ≡ getD (passing (k * 64) (inRow (now (row .entry)))) j 0 ⌝ }
+// Whether a block is pending. The set is read word by word, as it was written.
+pub fn any_pending(pending: &[u64; 4]) -> bool
+    ensures { λ r. ⌜ r ≡ anyBelow 256 (inRow (now (pending .entry))) ⌝ }
 {
-    let mut x = rows::next_state(row, k, 0);
-    let mut i = 0;
-    while i < j {
-        x = rows::next_state(row, k, x + 1);
-        i += 1;
-    }
-    x
+    rows::lowest_state(pending, 4) < 256
 }
 
 // The pending representative that number `step` of the schedule chooses, or number 0 when the schedule is used up.
@@ -188,7 +181,7 @@ pub fn next_block(pending: &[u64; 4], schedule: &[u16], step: usize) -> usize
 {
     if step < schedule.len() {
         let e = rows::wide(schedule[step]);
-        return member_at(pending, 4, e % rows::row_count(pending, 4));
+        return sets::member_at(pending, e % rows::row_count(pending, 4));
     }
     rows::lowest_state(pending, 4)
 }

@@ -15,7 +15,7 @@ use Rattle.lts.specs.Bounded.{anyBelow}
 use Rattle.lts.specs.System.{Set, Rel, Lts, into}
 use Rattle.lts.specs.Refinement.{block, remove, refine, eachAction}
 use Rattle.lts.proofs.Refine.{Blocks}
-use Rattle.lts.proofs.Below.{any-no, any-yes, any-shorter, clash, neither, lt-or-ge}
+use Rattle.lts.proofs.Below.{any-no, any-yes, any-shorter, and-fst, clash, neither, lt-or-ge}
 use Rattle.lts.proofs.System.{into-to}
 use Rattle.rows.specs.Rows.{inRow, rowOf}
 use Rattle.sets.specs.Sets.{setAt, setsOf}
@@ -26,6 +26,7 @@ use Rattle.transitions.specs.Table.{actionsOf, tableLts, Formed}
 use Rattle.transitions.proofs.Entries.{table-formed}
 use Rattle.splitting.specs.Split.{splitRelated, splitBlocks, pruneRelated, refinedRelated, Acted}
 use Rattle.splitting.proofs.Laws.{refined-cong, split-blocks-cong, refined-is, refined-blocks-is, SameSet, SameRel}
+use Rattle.splitting.proofs.Touched.{related-unsplit, blocks-unsplit}
 use Rattle.refinement.specs.Engine.{Refined, actionsTo, acted, removedBy, hitsBy, Idle, Fixed, Owning, Untouched, Done}
 
 -- ---- an action that changes nothing
@@ -51,44 +52,30 @@ module _ (Rem Hits : Set) (K P : Rel) (none : (q : ℕ) → q < 256 → Rem q �
   unfolding splitBlocks
   empty-blocks g h l m = sym (ap₂ (λ (a b : Bool). P g h && cond a b (not b)) (none g l) (none h m) ∙ and-true (P g h))
 
--- no hit, and each state is alone in its block
-module _ (Rem Hits : Set) (K P : Rel) (shared : Set) (parts : Parted P shared) (lone : (q : ℕ) → q < 256 → shared q ≡ false) (miss : (q : ℕ) → q < 256 → Hits q ≡ false) where
-  alone : (g h : ℕ) → g < 256 → h < 256 → P g h ≡ true → Rem h ≡ Rem g
-  alone g h l m e = ap Rem (parts .single g h l m (lone g l) e)
+-- no hit, and no block is split
+module _ (Rem Hits : Set) (K P : Rel) (one : (g h : ℕ) → g < 256 → h < 256 → P g h ≡ true → Rem h ≡ Rem g) (miss : (q : ℕ) → q < 256 → Hits q ≡ false) where
+  unsplit-related : (g h : ℕ) → g < 256 → h < 256 → K g h ≡ refinedRelated 256 Rem Hits K P g h
+  unfolding refinedRelated pruneRelated
+  unsplit-related g h l m =
+      related-unsplit Rem K P g h (one g h l m) ∙ sym (and-true (splitRelated Rem K P g h))
+      ∙ ap (λ (b : Bool). splitRelated Rem K P g h && not (b && Rem h))
+      (any-no 256 _ (λ x u. ap (λ (b : Bool). splitBlocks Rem P g x && b) (miss x u) ∙ and-false (splitBlocks Rem P g x)))
 
-  lone-blocks : (g h : ℕ) → g < 256 → h < 256 → P g h ≡ splitBlocks Rem P g h
-  unfolding splitBlocks
-  lone-blocks g h l m = go (P g h) (Rem g) (Rem h) (alone g h l m)
-    where
-      go : (p a b : Bool) → (p ≡ true → b ≡ a) → p ≡ p && cond a b (not b)
-      go false a b f = refl
-      go true true b f = sym (f refl)
-      go true false b f = sym (ap not (f refl))
+  unsplit-blocks : (g h : ℕ) → g < 256 → h < 256 → P g h ≡ splitBlocks Rem P g h
+  unsplit-blocks g h l m = blocks-unsplit Rem P g h (one g h l m)
 
-  lone-related : (g h : ℕ) → g < 256 → h < 256 → K g h ≡ refinedRelated 256 Rem Hits K P g h
-  unfolding refinedRelated pruneRelated splitRelated
-  lone-related g h l m =
-      go (K g h) (P g h) (Rem g) (Rem h) (alone g h l m)
-      ∙ ap (λ (b : Bool). (K g h && not (P g h && not (Rem g) && Rem h)) && not (b && Rem h)) (any-no 256 _ (λ x u. ap (λ (b : Bool). splitBlocks Rem P g x && b) (miss x u) ∙ and-false (splitBlocks Rem P g x)))
-    where
-      go : (k p a b : Bool) → (p ≡ true → b ≡ a) → k ≡ (k && not (p && not a && b)) && not (false && b)
-      go false p a b f = refl
-      go true false a b f = refl
-      go true true true b f = refl
-      go true true false true f = absurd (tf (f refl))
-        where
-          tf : true ≡ false → ⊥
-          tf e = subst T e tt
-      go true true false false f = refl
+-- P has no pair that Q has not
+abbrev pub Finer : Rel → Rel → Type 0
+Finer P Q = (g h : ℕ) → g < 256 → h < 256 → P g h ≡ true → Q g h ≡ true
 
 -- one that the engine skips
-pub idle-related : {Rem Hits shared : Set} {P : Rel} (K : Rel) → Idle Rem Hits shared → Parted P shared → SameRel 256 K (refinedRelated 256 Rem Hits K P)
-idle-related {Rem} {Hits} {shared} {P} K (inl none) parts = empty-related Rem Hits K P none
-idle-related {Rem} {Hits} {shared} {P} K (inr lone) parts = lone-related Rem Hits K P shared parts (lone .1) (lone .0)
+pub idle-related : {Rem Hits : Set} {P Q : Rel} (K : Rel) → Idle Rem Hits Q → Finer P Q → SameRel 256 K (refinedRelated 256 Rem Hits K P)
+idle-related {Rem} {Hits} {P} {Q} K (inl none) finer = empty-related Rem Hits K P none
+idle-related {Rem} {Hits} {P} {Q} K (inr still) finer = unsplit-related Rem Hits K P (λ g h l m e. still .1 g h l m (finer g h l m e)) (still .0)
 
-pub idle-blocks : {Rem Hits shared : Set} {P : Rel} → Idle Rem Hits shared → Parted P shared → SameRel 256 P (splitBlocks Rem P)
-idle-blocks {Rem} {Hits} {shared} {P} (inl none) parts = empty-blocks Rem Hits P P none
-idle-blocks {Rem} {Hits} {shared} {P} (inr lone) parts = lone-blocks Rem Hits P P shared parts (lone .1) (lone .0)
+pub idle-blocks : {Rem Hits : Set} {P Q : Rel} → Idle Rem Hits Q → Finer P Q → SameRel 256 P (splitBlocks Rem P)
+idle-blocks {Rem} {Hits} {P} {Q} (inl none) finer = empty-blocks Rem Hits P P none
+idle-blocks {Rem} {Hits} {P} {Q} (inr still) finer = unsplit-blocks Rem Hits P P (λ g h l m e. still .1 g h l m (finer g h l m e)) (still .0)
 
 -- ---- one action more, on lists that hold what j actions left
 
@@ -103,31 +90,31 @@ acted-next Rem Hits j r e d act = (
 )
 
 -- an action that is skipped
-pub acted-skip : (Rem Hits : ℕ → Set) (j : ℕ) (r : Refined) {shared : Set} {related blocks : List ℕ}
+pub acted-skip : (Rem Hits : ℕ → Set) (j : ℕ) (r : Refined) {Q : Rel} {related blocks : List ℕ}
     → related ≡ setsOf 256 (actionsTo Rem Hits j r .related) → blocks ≡ setsOf 256 (actionsTo Rem Hits j r .blocks)
-    → Idle (Rem (suc j)) (Hits (suc j)) shared → Parted (setAt blocks) shared
+    → Idle (Rem (suc j)) (Hits (suc j)) Q → Finer (setAt blocks) Q
     → (related ≡ setsOf 256 (actionsTo Rem Hits (suc j) r .related)) × (blocks ≡ setsOf 256 (actionsTo Rem Hits (suc j) r .blocks))
 unfolding actionsTo
-acted-skip Rem Hits j r {related = related} {blocks} e d idle parts = (
-  e ∙ sets-cong 256 _ _ (λ g h l m. sym (sets-in 256 _ e g h l m) ∙ idle-related (setAt related) idle parts g h l m
+acted-skip Rem Hits j r {related = related} {blocks} e d idle finer = (
+  e ∙ sets-cong 256 _ _ (λ g h l m. sym (sets-in 256 _ e g h l m) ∙ idle-related (setAt related) idle finer g h l m
       ∙ refined-cong 256 (λ _ _. refl) (λ _ _. refl) (sets-in 256 _ e) (sets-in 256 _ d) g h l m),
-  d ∙ sets-cong 256 _ _ (λ g h l m. sym (sets-in 256 _ d g h l m) ∙ idle-blocks idle parts g h l m ∙ split-blocks-cong 256 (λ _ _. refl) (sets-in 256 _ d) g h l m),
+  d ∙ sets-cong 256 _ _ (λ g h l m. sym (sets-in 256 _ d g h l m) ∙ idle-blocks idle finer g h l m ∙ split-blocks-cong 256 (λ _ _. refl) (sets-in 256 _ d) g h l m),
 )
 
 -- the actions from i up to j that are skipped
-pub acted-skips : (Rem Hits : ℕ → Set) (i j : ℕ) (r : Refined) {shared : Set} {related blocks : List ℕ} → i ≤ j
+pub acted-skips : (Rem Hits : ℕ → Set) (i j : ℕ) (r : Refined) {Q : Rel} {related blocks : List ℕ} → i ≤ j
     → related ≡ setsOf 256 (actionsTo Rem Hits i r .related) → blocks ≡ setsOf 256 (actionsTo Rem Hits i r .blocks)
-    → ((x : ℕ) → i ≤ x → x < j → Idle (Rem (suc x)) (Hits (suc x)) shared) → Parted (setAt blocks) shared
+    → ((x : ℕ) → i ≤ x → x < j → Idle (Rem (suc x)) (Hits (suc x)) Q) → Finer (setAt blocks) Q
     → (related ≡ setsOf 256 (actionsTo Rem Hits j r .related)) × (blocks ≡ setsOf 256 (actionsTo Rem Hits j r .blocks))
-acted-skips Rem Hits i zero r {related = related} {blocks} l e d idle parts =
+acted-skips Rem Hits i zero r {related = related} {blocks} l e d idle finer =
     let same : i ≡ 0 = omega (arith, l) in
     (e ∙ ap (λ (x : ℕ). setsOf 256 (actionsTo Rem Hits x r .related)) same, d ∙ ap (λ (x : ℕ). setsOf 256 (actionsTo Rem Hits x r .blocks)) same)
-acted-skips Rem Hits i (suc j) r {shared} {related} {blocks} l e d idle parts =
+acted-skips Rem Hits i (suc j) r {Q} {related} {blocks} l e d idle finer =
     ⊎-elim
     (λ (same : i ≡ suc j). (e ∙ ap (λ (x : ℕ). setsOf 256 (actionsTo Rem Hits x r .related)) same, d ∙ ap (λ (x : ℕ). setsOf 256 (actionsTo Rem Hits x r .blocks)) same))
     (λ (m : i < suc j).
-    let before = acted-skips Rem Hits i j r {shared = shared} {related = related} {blocks = blocks} (omega (arith, m)) e d (λ x u v. idle x u (omega (arith, v))) parts in
-    acted-skip Rem Hits j r (before .0) (before .1) (idle j (omega (arith, m)) (le-refl (suc j))) parts)
+    let before = acted-skips Rem Hits i j r {Q = Q} {related = related} {blocks = blocks} (omega (arith, m)) e d (λ x u v. idle x u (omega (arith, v))) finer in
+    acted-skip Rem Hits j r (before .0) (before .1) (idle j (omega (arith, m)) (le-refl (suc j))) finer)
     (eq-or-lt-of-le l)
 
 -- what one action makes of lists whose sets agree
@@ -236,6 +223,10 @@ owning-split blocks Rem ok own is g h =
     stays true = refl
     stays false = refl
 
+split-finer : (Rem : Set) (P : Rel) (g h : ℕ) → splitBlocks Rem P g h ≡ true → P g h ≡ true
+unfolding splitBlocks
+split-finer Rem P g h e = and-fst (P g h) _ e
+
 -- ---- what a walk over the actions has done
 
 -- the actions 1 to i are done, and `left` has the other bits of the word of actions; a row outside `touched` is as it was
@@ -246,16 +237,18 @@ pub record Going (t : List ℕ) (Rem Hits : ℕ → Set) (actions : ℕ) (shared
   pub blocks-is : blocks′ ≡ setsOf 256 (acted Rem Hits i related blocks .blocks)
   pub untouched : Untouched related blocks related′ blocks′ touched
   pub parts : Parted (setAt blocks′) shared
+  pub finer : Finer (setAt blocks′) (setAt blocks)
   pub own : Owning t blocks′
 
-module _ {t places rows : List ℕ} {actions : ℕ} {B Y N shared : Set} {whole : Bool} (fixed : Fixed t places rows actions B Y N shared whole) (related blocks : List ℕ) where
+module _ (related blocks : List ℕ) {t places rows : List ℕ} {actions : ℕ} {B Y N : Set} {whole : Bool}
+    (fixed : Fixed t places rows actions B Y N (setAt blocks) whole) where
   abbrev Rem : ℕ → Set
   Rem = removedBy t Y N
 
   abbrev Hits : ℕ → Set
   Hits = hitsBy t B
 
-  pub going-begin : length related ≡ 1024 → length blocks ≡ 1024 → ((j : ℕ) → getD related j 0 < 2 ^ 64) → ((j : ℕ) → getD blocks j 0 < 2 ^ 64)
+  pub going-begin : {shared : Set} → length related ≡ 1024 → length blocks ≡ 1024 → ((j : ℕ) → getD related j 0 < 2 ^ 64) → ((j : ℕ) → getD blocks j 0 < 2 ^ 64)
       → Parted (setAt blocks) shared → Owning t blocks → (touched : List ℕ) → Going t Rem Hits actions shared related blocks 0 actions related blocks touched
   unfolding actionsTo
   going-begin long length-blocks words words-blocks parts own touched = record {
@@ -265,10 +258,11 @@ module _ {t places rows : List ℕ} {actions : ℕ} {B Y N shared : Set} {whole 
     blocks-is = sets-ext 256 blocks length-blocks words-blocks;
     untouched = record { related-same = λ _ _ _ _ _. refl; blocks-same = λ _ _ _ _ _. refl };
     parts = parts;
+    finer = λ _ _ _ _ e. e;
     own = own;
   }
 
-  module _ {i left : ℕ} {related′ blocks′ touched : List ℕ} (now : Going t Rem Hits actions shared related blocks i left related′ blocks′ touched) where
+  module _ {shared : Set} {i left : ℕ} {related′ blocks′ touched : List ℕ} (now : Going t Rem Hits actions shared related blocks i left related′ blocks′ touched) where
     -- the next action
     module _ (some : left ≡ 0 → ⊥) where
       abbrev j : ℕ
@@ -284,8 +278,8 @@ module _ {t places rows : List ℕ} {actions : ℕ} {B Y N shared : Set} {whole 
       next-low = next .below
 
       skipped : (related′ ≡ setsOf 256 (acted Rem Hits j related blocks .related)) × (blocks′ ≡ setsOf 256 (acted Rem Hits j related blocks .blocks))
-      skipped = acted-skips Rem Hits i j _ {shared = shared} (next .above) (now .related-is) (now .blocks-is)
-          (λ x l h. fixed .idle x (omega (arith, h, next-most)) (next .none x l h)) (now .parts)
+      skipped = acted-skips Rem Hits i j _ {Q = setAt blocks} (next .above) (now .related-is) (now .blocks-is)
+          (λ x l h. fixed .idle x (omega (arith, h, next-most)) (next .none x l h)) (now .finer)
 
       pub going-next : {related″ blocks″ changed touched′ : List ℕ} → Acted (Rem (j + 1)) (Hits (j + 1)) related′ blocks′ related″ blocks″ changed → Parted (setAt blocks″) shared
           → touched′ ≡ rowOf 4 (λ q. inRow touched q || inRow changed q) → Going t Rem Hits actions shared related blocks (j + 1) (bitAnd left (left - 1)) related″ blocks″ touched′
@@ -299,6 +293,7 @@ module _ {t places rows : List ℕ} {actions : ℕ} {B Y N shared : Set} {whole 
           blocks-same = λ g h u v e. let o = out g u e in act .blocks-same g h u v (o .1) ∙ now .untouched .blocks-same g h u v (o .0);
         };
         parts = parts;
+        finer = λ g h u v e. now .finer g h u v (split-finer (Rem (j + 1)) (setAt blocks′) g h (sym (sets-in 256 _ (act .blocks-is) g h u v) ∙ e));
         own = owning-split blocks′ (Rem (j + 1)) (fixed .index .formed) (now .own) (act .blocks-is);
       }
         where
@@ -311,6 +306,6 @@ module _ {t places rows : List ℕ} {actions : ℕ} {B Y N shared : Set} {whole 
     -- the end
     pub going-end : left ≡ 0 → Done t B Y N related blocks related′ blocks′ touched
     going-end none =
-        let all = acted-skips Rem Hits i (actionsOf t) _ {shared = shared} (now .most) (now .related-is) (now .blocks-is)
-        (λ x l h. fixed .idle x h (rest-end actions i left (now .rest) none x l (omega (arith, h, fixed .index .formed .labels)))) (now .parts) in
+        let all = acted-skips Rem Hits i (actionsOf t) _ {Q = setAt blocks} (now .most) (now .related-is) (now .blocks-is)
+        (λ x l h. fixed .idle x h (rest-end actions i left (now .rest) none x l (omega (arith, h, fixed .index .formed .labels)))) (now .finer) in
         record { related-is = all .0; blocks-is = all .1; untouched = now .untouched }

@@ -29,7 +29,7 @@ use Rattle.refinement.specs.Engine.{Start}
 
 -- K without the pairs that the first i transitions refute: (p, q) where p has a transition by an action that q has none by
 abbrev pub keptBelow : List ℕ → List ℕ → Rel → ℕ → Rel
-keptBelow t rows K i p q = K p q && allBelow i (λ j. eqb (sourceAt t j) p ⇒ setAt rows (64 + 2 * actionAt t j) q)
+keptBelow t rows K i p q = K p q && allBelow i (λ j. eqb (sourceAt t j) p ⇒ setAt rows (63 + 2 * actionAt t j) q)
 
 pub kept-none : (t rows related : List ℕ) → length related ≡ 1024 → ((j : ℕ) → getD related j 0 < 2 ^ 64) → related ≡ setsOf 256 (keptBelow t rows (setAt related) 0)
 unfolding allBelow
@@ -37,12 +37,12 @@ kept-none t rows related long words = sets-ext 256 related long words ∙ sets-c
 
 -- one transition more
 module _ (t rows : List ℕ) (K : Rel) (i : ℕ) (related row able met : List ℕ) {p a : ℕ} (source : p ≡ sourceAt t i) (action : a ≡ actionAt t i)
-    (now : related ≡ setsOf 256 (keptBelow t rows K i)) (row-is : row ≡ rowOf 4 (setAt related p)) (able-is : able ≡ rowOf 4 (setAt rows (64 + 2 * a)))
+    (now : related ≡ setsOf 256 (keptBelow t rows K i)) (row-is : row ≡ rowOf 4 (setAt related p)) (able-is : able ≡ rowOf 4 (setAt rows (63 + 2 * a)))
     (met-is : met ≡ rowOf 4 (λ q. inRow row q && inRow able q)) where
-  met-in : (q : ℕ) → q < 256 → inRow met q ≡ setAt related p q && setAt rows (64 + 2 * actionAt t i) q
+  met-in : (q : ℕ) → q < 256 → inRow met q ≡ setAt related p q && setAt rows (63 + 2 * actionAt t i) q
   met-in q h =
       set-in _ met-is q h
-      ∙ ap₂ _&&_ (set-in _ row-is q h) (set-in _ able-is q h ∙ ap (λ (x : ℕ). setAt rows (64 + 2 * x) q) action)
+      ∙ ap₂ _&&_ (set-in _ row-is q h) (set-in _ able-is q h ∙ ap (λ (x : ℕ). setAt rows (63 + 2 * x) q) action)
 
   here : (k b s : Bool) → (k && b) && s ≡ k && (b && (not true || s))
   here true b s = refl
@@ -62,15 +62,15 @@ module _ (t rows : List ℕ) (K : Rel) (i : ℕ) (related row able met : List �
       (λ (same : eqb x p ≡ true).
       let k = eqb-true x p same in
       ap (λ (b : Bool). cond b (inRow met q) (setAt related x q)) same ∙ met-in q l
-      ∙ ap (λ (y : ℕ). setAt related y q && setAt rows (64 + 2 * actionAt t i) q) (sym k)
-      ∙ ap (λ (b : Bool). b && setAt rows (64 + 2 * actionAt t i) q) (sets-in 256 _ now x q h l)
-      ∙ here (K x q) (allBelow i (λ j. eqb (sourceAt t j) x ⇒ setAt rows (64 + 2 * actionAt t j) q)) (setAt rows (64 + 2 * actionAt t i) q)
-      ∙ ap (λ (b : Bool). K x q && (allBelow i (λ j. eqb (sourceAt t j) x ⇒ setAt rows (64 + 2 * actionAt t j) q) && (not b || setAt rows (64 + 2 * actionAt t i) q)))
+      ∙ ap (λ (y : ℕ). setAt related y q && setAt rows (63 + 2 * actionAt t i) q) (sym k)
+      ∙ ap (λ (b : Bool). b && setAt rows (63 + 2 * actionAt t i) q) (sets-in 256 _ now x q h l)
+      ∙ here (K x q) (allBelow i (λ j. eqb (sourceAt t j) x ⇒ setAt rows (63 + 2 * actionAt t j) q)) (setAt rows (63 + 2 * actionAt t i) q)
+      ∙ ap (λ (b : Bool). K x q && (allBelow i (λ j. eqb (sourceAt t j) x ⇒ setAt rows (63 + 2 * actionAt t j) q) && (not b || setAt rows (63 + 2 * actionAt t i) q)))
       (sym (eq-eqb (sourceAt t i) x (sym source ∙ sym k))))
       (λ (other : eqb x p ≡ false).
       ap (λ (b : Bool). cond b (inRow met q) (setAt related x q)) other ∙ sets-in 256 _ now x q h l
-      ∙ there (K x q) (allBelow i (λ j. eqb (sourceAt t j) x ⇒ setAt rows (64 + 2 * actionAt t j) q)) (setAt rows (64 + 2 * actionAt t i) q)
-      ∙ ap (λ (b : Bool). K x q && (allBelow i (λ j. eqb (sourceAt t j) x ⇒ setAt rows (64 + 2 * actionAt t j) q) && (not b || setAt rows (64 + 2 * actionAt t i) q)))
+      ∙ there (K x q) (allBelow i (λ j. eqb (sourceAt t j) x ⇒ setAt rows (63 + 2 * actionAt t j) q)) (setAt rows (63 + 2 * actionAt t i) q)
+      ∙ ap (λ (b : Bool). K x q && (allBelow i (λ j. eqb (sourceAt t j) x ⇒ setAt rows (63 + 2 * actionAt t j) q) && (not b || setAt rows (63 + 2 * actionAt t i) q)))
       (sym (ne-eqb (sourceAt t i) x (λ z. off x (sym z ∙ sym source) other))))
       (either (eqb x p))))
     where

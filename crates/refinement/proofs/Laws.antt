@@ -12,8 +12,8 @@ use Rattle.lts.specs.System.{Rel, Lts, WellFormed, anyState}
 use Rattle.lts.specs.Refinement.{Relations, initial, block, pending, stepOf, chosen, step, coarsest}
 use Rattle.lts.proofs.Bounded.{test-ext, restrict-iff, restrict-at, restrict-same}
 use Rattle.lts.proofs.Count.{passing-at, passing-some}
-use Rattle.lts.proofs.System.{Preorder}
-use Rattle.lts.proofs.Step.{Inv, during, step-inv, viewed-shrinks}
+use Rattle.lts.proofs.System.{Preorder, into-to, into-from}
+use Rattle.lts.proofs.Step.{Inv, block-iff, during, step-inv, viewed-shrinks}
 use Rattle.lts.proofs.Run.{Reached, begin, next, reached-inv, reached-below, reached-end}
 use Rattle.sets.specs.Sets.{setAt, setsOf}
 use Rattle.sets.proofs.Lists.{sets-in}
@@ -76,7 +76,13 @@ module _ (L : Lts) (wf : WellFormed L) (start : Rel) (pre : Preorder L start) (s
     inv = reached-inv L wf start pre schedule steps s (st .reached)
 
     pub state-steady : (b : ℕ) → Steady L b s
-    state-steady b = record { during = during L wf start s inv b }
+    state-steady b = record {
+      spread = λ a g h e.
+          let k = block-iff (s .related) g h .0 e in
+          test-ext _ _ (λ t. into-from wf a (s .viewed b) g (inv .spread a b h g (k .1) (k .0) (into-to L a (s .viewed b) h t)))
+          (λ t. into-from wf a (s .viewed b) h (inv .spread a b g h (k .0) (k .1) (into-to L a (s .viewed b) g t)));
+      during = during L wf start s inv b;
+    }
 
     pub chosen-below : (e : ℕ) → T (anyState L (pending L s)) → chosen L e s < n
     unfolding chosen anyState

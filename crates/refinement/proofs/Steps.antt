@@ -15,12 +15,13 @@ use Rattle.lts.proofs.Bounded.{test-ext, restrict-iff}
 use Rattle.lts.proofs.Below.{T-true, any-cong, any-no, any-yes, any-some, and-fst, and-snd, bool-iff, clash, neither, lt-or-ge}
 use Rattle.lts.proofs.Step.{block-iff}
 use Rattle.rows.specs.Rows.{bit, inRow, rowOf}
+use Rattle.rows.proofs.Bits.{bit-wordOf, wordOf-lt}
 use Rattle.sets.specs.Sets.{setAt, setsOf}
 use Rattle.sets.specs.Parts.{Parted, Owned}
 use Rattle.sets.proofs.Lists.{set-in, sets-in, sets-cong}
 use Rattle.transitions.specs.Table.{statesOf, actionsOf, tableLts, Formed}
 use Rattle.transitions.proofs.Entries.{table-formed}
-use Rattle.adjacency.specs.Adjacency.{Index}
+use Rattle.adjacency.specs.Adjacency.{Index, actionsEntering}
 use Rattle.splitting.specs.Split.{splitBlocks, refinedRelated}
 use Rattle.splitting.proofs.Laws.{hit-free, refined-cong, split-blocks-cong, SameRel}
 use Rattle.refinement.specs.Engine.{heldBy, relationsOf, stepped, Refined, actionsTo, acted, removedBy, hitsBy, Idle, Turning, Fixed, Owning, Untouched, Done, Before, Steady, Stepping, Made}
@@ -139,12 +140,51 @@ module _ {t places rows all : List ℕ} {b : ℕ} {related viewed blocks shared 
         go false r = refl
         go true r = absurd (clash (sym (any-yes k f i h r)) e)
 
-    -- by an action that no transition has, Rem is empty
-    unused : (j : ℕ) → j < actionsOf t → bit (getD rows 256 0) j ≡ false → (q : ℕ) → q < 256 → remove L (suc j) (inRow inside) (inRow outside) q ≡ false
+    -- an action that the words of a set's states have not: no transition by it goes into the set
+    quiet : (S : List ℕ) (j : ℕ) → j < actionsOf t → bit (actionsEntering rows (inRow S)) j ≡ false
+        → (p q : ℕ) → p < 256 → q < n → inRow S q ≡ true → L .transition p (suc j) q ≡ false
+    quiet S j h e p q hp hq m =
+        let u : q < 256 = omega (arith, hq, small) in
+        let none = off 256 (λ q. inRow S q && bit (getD rows q 0) j) (sym (bit-wordOf 64 _ j (omega (arith, h, ok .labels))) ∙ e) q u in
+        let unset : bit (getD rows q 0) j ≡ false = sym (ap (λ (b : Bool). b && bit (getD rows q 0) j) m) ∙ none in
+        off 256 (λ p. L .transition p (suc j) q) (sym (at .index .actions (suc j) q (omega arith) h u) ∙ ap (bit (getD rows q 0)) (less j) ∙ unset) p hp
+
+    -- by one with no transition into N, Rem is empty
+    unused : (j : ℕ) → j < actionsOf t → bit (actionsEntering rows (inRow outside)) j ≡ false
+        → (q : ℕ) → q < 256 → remove L (suc j) (inRow inside) (inRow outside) q ≡ false
     unfolding remove
-    unused j h e q u =
-        ap (λ (x : Bool). x && not (into L (suc j) (inRow inside) q)) (no-into (suc j) (inRow outside) (λ p r hp hr _.
-        off 256 (λ p. L .transition p (suc j) r) (off 256 (λ q. anyBelow 256 (λ p. L .transition p (suc j) q)) (sym (at .index .used (suc j) (omega arith) h) ∙ ap (bit (getD rows 256 0)) (less j) ∙ e) r (omega (arith, hr, small))) p hp) q u)
+    unused j h e q u = ap (λ (x : Bool). x && not (into L (suc j) (inRow inside) q)) (no-into (suc j) (inRow outside) (quiet outside j h e) q u)
+
+    -- by one with no transition into Y, there is no hit, and Rem is what goes into V: it splits no block
+    module _ (j : ℕ) (h : j < actionsOf t) (e : bit (actionsEntering rows (inRow inside)) j ≡ false) where
+      inside-missed : (q : ℕ) → q < 256 → into L (suc j) (inRow members) q ≡ false
+      inside-missed = no-into (suc j) (inRow members) (λ p r hp hr m.
+          let u : r < 256 = omega (arith, hr, small) in
+          let b : T (B r) = subst T (sym (sym (in-members r u) ∙ m)) tt in
+          quiet inside j h e p r hp hr (in-inside r u ∙ T-true _ (block-iff (s .related) _ r .0 b .0)))
+
+      goes-viewed : (q : ℕ) → q < 256 → into L (suc j) (inRow outside) q ≡ into L (suc j) (s .viewed b) q
+      unfolding into anyState tableLts
+      goes-viewed q u = any-cong n _ _ (λ r hr.
+          let v : r < 256 = omega (arith, hr, small) in
+          ap (λ (x : Bool). L .transition q (suc j) r && x) (in-outside r v)
+          ∙ cases (L .transition q (suc j) r) (s .viewed b r) (s .related b r) (λ y. quiet inside j h e q r u hr (in-inside r v ∙ y)))
+        where
+          cases : (x v y : Bool) → (y ≡ true → x ≡ false) → x && (v && not y) ≡ x && v
+          cases false v y f = refl
+          cases true v true f = absurd (true≢false (f refl))
+          cases true v false f = and-true v
+
+      rem-viewed : (q : ℕ) → q < 256 → remove L (suc j) (inRow inside) (inRow outside) q ≡ into L (suc j) (s .viewed b) q
+      unfolding remove
+      rem-viewed q u =
+          ap (λ (x : Bool). into L (suc j) (inRow outside) q && not x) (no-into (suc j) (inRow inside) (quiet inside j h e) q u)
+          ∙ and-true (into L (suc j) (inRow outside) q) ∙ goes-viewed q u
+
+      inside-unsplit : (g k : ℕ) → g < 256 → k < 256 → setAt blocks g k ≡ true
+          → remove L (suc j) (inRow inside) (inRow outside) k ≡ remove L (suc j) (inRow inside) (inRow outside) g
+      inside-unsplit g k hg hk p =
+          rem-viewed k hk ∙ at .steady .spread (suc j) g k (subst T (sym (sym (same-blocks g k hg hk) ∙ p)) tt) ∙ sym (rem-viewed g hg)
 
     -- by one with no transition into b, which is alone in its block, there is no hit
     missed : (j : ℕ) → j < actionsOf t → inRow shared b ≡ false → bit (getD rows b 0) j ≡ false → (q : ℕ) → q < 256 → into L (suc j) (inRow members) q ≡ false
@@ -153,30 +193,40 @@ module _ {t places rows all : List ℕ} {b : ℕ} {related viewed blocks shared 
         let same = at .begun .parts .single b r low u lone (sym (set-in _ (turn .members-is) r u) ∙ m) in
         ap (L .transition p (suc j)) same ∙ off 256 (λ p. L .transition p (suc j) b) (sym (at .index .actions (suc j) b (omega arith) h low) ∙ ap (bit (getD rows b 0)) (less j) ∙ e) p hp)
 
-    abbrev Picked : ℕ → Type 0
-    Picked word = (j : ℕ) → j < actionsOf t → bit word j ≡ false → Idle (removedBy t (inRow inside) (inRow outside) (suc j)) (hitsBy t (inRow members) (suc j)) (inRow shared)
+    abbrev Picked : ℕ → ℕ → Type 0
+    Picked j word = bit word j ≡ false → Idle (removedBy t (inRow inside) (inRow outside) (suc j)) (hitsBy t (inRow members) (suc j)) (setAt blocks)
+
+    -- the word of actions is that of Y, of N or of b
+    by-word : (C : ℕ → Type 0) → C (actionsEntering rows (inRow inside)) → C (actionsEntering rows (inRow outside))
+        → (anyBelow 256 (inRow shared) ≡ false → C (getD rows b 0)) → C actions
+    by-word C c₁ c₂ c₃ = subst C (sym (turn .actions-is)) (go (anyBelow 256 (inRow shared)) whole refl)
+      where
+        go : (x w : Bool) → anyBelow 256 (inRow shared) ≡ x → C (cond x (actionsEntering rows (inRow (cond w inside outside))) (getD rows b 0))
+        go true true e = c₁
+        go true false e = c₂
+        go false w e = c₃ e
 
     no-more : (j : ℕ) → actionsOf t ≤ j → j < 64 → bit actions j ≡ false
-    no-more j l h = ap (λ (x : ℕ). bit x j) (turn .actions-is) ∙ go (anyBelow 256 (inRow shared))
+    no-more j l h = by-word (λ w. bit w j ≡ false) (none inside) (none outside) (λ _. at .index .no-more j b low l h)
       where
-        go : (x : Bool) → bit (cond x (getD rows 256 0) (getD rows b 0)) j ≡ false
-        go true = at .index .no-more j 256 (omega arith) l h
-        go false = at .index .no-more j b (omega (arith, low)) l h
+        none : (S : List ℕ) → bit (actionsEntering rows (inRow S)) j ≡ false
+        none S = bit-wordOf 64 _ j h ∙ sym (any-no 256 _ (λ q u. ap (λ (x : Bool). inRow S q && x) (at .index .no-more j q u l h) ∙ and-false (inRow S q)))
 
-    idle : Picked actions
-    idle j h = subst (λ (w : ℕ). bit w j ≡ false → Idle (removedBy t (inRow inside) (inRow outside) (suc j)) (hitsBy t (inRow members) (suc j)) (inRow shared)) (sym (turn .actions-is)) (go (anyBelow 256 (inRow shared)) refl)
-      where
-        go : (x : Bool) → anyBelow 256 (inRow shared) ≡ x → bit (cond x (getD rows 256 0) (getD rows b 0)) j ≡ false
-            → Idle (removedBy t (inRow inside) (inRow outside) (suc j)) (hitsBy t (inRow members) (suc j)) (inRow shared)
-        go true some e = inl (unused j h e)
-        go false none e = inr (missed j h (off 256 (inRow shared) none b low) e, off 256 (inRow shared) none)
+    idle : (j : ℕ) → j < actionsOf t → Picked j actions
+    idle j h = by-word (Picked j) (λ e. inr (inside-missed j h e, inside-unsplit j h e)) (λ e. inl (unused j h e))
+        (λ none e. inr (
+          missed j h (off 256 (inRow shared) none b low) e,
+          λ g k hg hk p. ap (removedBy t (inRow inside) (inRow outside) (suc j)) (at .begun .parts .single g k hg hk (off 256 (inRow shared) none g hg) p),
+        ))
 
-    pub step-fixed : ((j : ℕ) → getD rows j 0 < 2 ^ 64) → Fixed t places rows actions (inRow members) (inRow inside) (inRow outside) (inRow shared) whole
-    step-fixed words = record { index = at .index; small = subst (λ (x : ℕ). x < 2 ^ 64) (sym (turn .actions-is)) (picked (anyBelow 256 (inRow shared))); covers = covers; no-more = no-more; idle = idle }
-      where
-        picked : (x : Bool) → cond x (getD rows 256 0) (getD rows b 0) < 2 ^ 64
-        picked true = words 256
-        picked false = words b
+    pub step-fixed : ((j : ℕ) → getD rows j 0 < 2 ^ 64) → Fixed t places rows actions (inRow members) (inRow inside) (inRow outside) (setAt blocks) whole
+    step-fixed words = record {
+      index = at .index;
+      small = by-word (λ w. w < 2 ^ 64) (wordOf-lt 64 _) (wordOf-lt 64 _) (λ _. words b);
+      covers = covers;
+      no-more = no-more;
+      idle = idle;
+    }
 
     -- ---- what the actions make
 

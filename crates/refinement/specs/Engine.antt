@@ -16,7 +16,7 @@ use Rattle.rows.specs.Rows.{bit, inRow, rowOf}
 use Rattle.relation.specs.Matrix.{relationOf, Matrix}
 use Rattle.sets.specs.Sets.{setAt, setsOf}
 use Rattle.sets.specs.Parts.{Parted, Owned}
-use Rattle.adjacency.specs.Adjacency.{Index}
+use Rattle.adjacency.specs.Adjacency.{Index, actionsEntering}
 use Rattle.splitting.specs.Split.{splitBlocks, refinedRelated}
 
 -- the relations that the lists of K and V hold
@@ -51,18 +51,19 @@ removedBy t Y N a = remove (tableLts t) a Y N
 abbrev pub hitsBy : List ℕ → Set → ℕ → Set
 hitsBy t B a = into (tableLts t) a B
 
--- an action changes nothing: Rem is empty, or there is no hit and no state shares its block
-abbrev pub Idle : Set → Set → Set → Type 0
-Idle Rem Hits shared = ((q : ℕ) → q < 256 → Rem q ≡ false) ⊎ (((q : ℕ) → q < 256 → Hits q ≡ false) × ((q : ℕ) → q < 256 → shared q ≡ false))
+-- an action changes nothing: Rem is empty, or there is no hit and Rem splits no block
+abbrev pub Idle : Set → Set → Rel → Type 0
+Idle Rem Hits P = ((q : ℕ) → q < 256 → Rem q ≡ false)
+    ⊎ (((q : ℕ) → q < 256 → Hits q ≡ false) × ((g h : ℕ) → g < 256 → h < 256 → P g h ≡ true → Rem h ≡ Rem g))
 
 -- What is fixed for a step: the index of the table, and B, Y and N. `whole` says that Y and N have every state. `actions` has bit a - 1 for each action a
--- that may change something.
-pub record Fixed (t places rows : List ℕ) (actions : ℕ) (B Y N shared : Set) (whole : Bool) : Type 0 where
+-- that may change something, where P are the blocks at the step's beginning.
+pub record Fixed (t places rows : List ℕ) (actions : ℕ) (B Y N : Set) (P : Rel) (whole : Bool) : Type 0 where
   pub index : Index t places rows
   pub small : actions < 2 ^ 64
   pub covers : whole ≡ true → (q : ℕ) → q < statesOf t → Y q || N q ≡ true
   pub no-more : (j : ℕ) → actionsOf t ≤ j → j < 64 → bit actions j ≡ false
-  pub idle : (j : ℕ) → j < actionsOf t → bit actions j ≡ false → Idle (removedBy t Y N (suc j)) (hitsBy t B (suc j)) shared
+  pub idle : (j : ℕ) → j < actionsOf t → bit actions j ≡ false → Idle (removedBy t Y N (suc j)) (hitsBy t B (suc j)) P
 
 -- what a step fixes at its beginning: the rows of B, Y and N, the actions to go through, and whether V has every state
 pub record Turning (rows all shared : List ℕ) (b : ℕ) (related viewed blocks members inside outside : List ℕ) (actions : ℕ) (whole : Bool) : Type 0 where
@@ -70,7 +71,7 @@ pub record Turning (rows all shared : List ℕ) (b : ℕ) (related viewed blocks
   pub inside-is : inside ≡ rowOf 4 (setAt related b)
   pub outside-is : outside ≡ rowOf 4 (λ q. setAt viewed b q && not (setAt related b q))
   pub whole-is : whole ≡ true → (q : ℕ) → q < 256 → setAt viewed b q ≡ inRow all q
-  pub actions-is : actions ≡ cond (anyBelow 256 (inRow shared)) (getD rows 256 0) (getD rows b 0)
+  pub actions-is : actions ≡ cond (anyBelow 256 (inRow shared)) (actionsEntering rows (inRow (cond whole inside outside))) (getD rows b 0)
 
 -- each state of the table is in its own block
 abbrev pub Owning : List ℕ → List ℕ → Type 0
@@ -95,8 +96,9 @@ pub record Before (n b : ℕ) (related viewed blocks shared : List ℕ) : Type 0
   pub blocks-is : blocks ≡ setsOf 256 (block (heldBy n related))
   pub parts : Parted (setAt blocks) (inRow shared)
 
--- K has blocks after each action of the step of p's block
+-- K has blocks after each action of the step of p's block, and the states of a block at its beginning go into V of p alike
 pub record Steady (L : Lts) (p : ℕ) (s : Relations) : Type 0 where
+  pub spread : (a g h : ℕ) → T (block (s .related) g h) → into L a (s .viewed p) h ≡ into L a (s .viewed p) g
   pub during : (j : ℕ) → Blocks (λ g. g < L .states) (λ g h. T (eachAction j (refine L (block (s .related) p) (s .related p) (λ q. s .viewed p q && not (s .related p q))) (s .related) g h))
 
 -- what a step has, for the table t: its index, the set of all states, and what it begins with

@@ -14,7 +14,7 @@ ghost use Rattle.relation.specs.Matrix.{relationOf, matrixOf};
 ghost use Rattle.sets.specs.Sets.{setAt, setsOf};
 ghost use Rattle.sets.specs.Parts.{Parted};
 ghost use Rattle.transitions.specs.Table.{statesOf, actionsOf, countOf, sourceAt, actionAt, tableLts, Formed};
-ghost use Rattle.adjacency.specs.Adjacency.{Index};
+ghost use Rattle.adjacency.specs.Adjacency.{Index, actionsEntering};
 ghost use Rattle.splitting.specs.Split.{Acted};
 ghost use Rattle.refinement.specs.Engine.{Turning, Fixed, Owning, Done, Stepping, Made, State, Start};
 
@@ -67,9 +67,9 @@ fn refine_actions(
 ) -> [u64; 4]
     requires { ⌜ (length (now related) ≡ 1024) × (length (now blocks) ≡ 1024) × Parted (setAt (now blocks)) (inRow shared)
         × ((t : List ℕ) × Owning t (now blocks) × Fixed t (now places) (now rows) (turn .actions)
-        (inRow (turn .members)) (inRow (turn .inside)) (inRow (turn .outside)) (inRow shared) (turn .whole)) ⌝ }
+        (inRow (turn .members)) (inRow (turn .inside)) (inRow (turn .outside)) (setAt (now blocks)) (turn .whole)) ⌝ }
     ensures { λ r. ⌜ ((t : List ℕ) → Owning t (now (blocks .entry)) → Fixed t (now (places .entry)) (now (rows .entry)) (turn .actions)
-        (inRow (turn .members)) (inRow (turn .inside)) (inRow (turn .outside)) (inRow shared) (turn .whole)
+        (inRow (turn .members)) (inRow (turn .inside)) (inRow (turn .outside)) (setAt (now (blocks .entry))) (turn .whole)
         → Done t (inRow (turn .members)) (inRow (turn .inside)) (inRow (turn .outside))
         (now (related .entry)) (now (blocks .entry)) (now (related .exit)) (now (blocks .exit)) r) ⌝ }
     ensures { λ _. ⌜ Parted (setAt (now (blocks .exit))) (inRow shared) ⌝ }
@@ -96,13 +96,24 @@ fn is_whole(seen: [u64; 4], all: [u64; 4], inside: [u64; 4]) -> bool
     2 * rows::row_count(&inside, 4) <= rows::row_count(&all, 4)
 }
 
-// The actions to go through: those with a transition or, where no two states share a block, with one into b.
-fn actions_of(rows: &[u64], shared: [u64; 4], b: usize) -> u64
-    requires { ⌜ (b < 256) × (260 ≤ length (now rows)) ⌝ }
-    ensures { λ r. ⌜ r ≡ cond (anyBelow 256 (inRow shared)) (getD (now (rows .entry)) 256 0) (getD (now (rows .entry)) b 0) ⌝ }
+// Where states share blocks, an action with no transition into Y changes nothing, nor does one with none into N: Y is the set to ask about if `whole`.
+fn watched(inside: [u64; 4], outside: [u64; 4], whole: bool) -> [u64; 4]
+    ensures { λ r. ⌜ r ≡ cond whole inside outside ⌝ }
+{
+    if whole {
+        return inside;
+    }
+    outside
+}
+
+// The actions to go through: those with a transition into the set or, where no two states share a block, into b.
+fn actions_of(rows: &[u64], shared: [u64; 4], b: usize, set: [u64; 4]) -> u64
+    requires { ⌜ (b < 256) × (256 ≤ length (now rows)) ⌝ }
+    ensures { λ r. ⌜ (let rows = now (rows .entry) in
+        r ≡ cond (anyBelow 256 (inRow shared)) (actionsEntering rows (inRow set)) (getD rows b 0)) ⌝ }
 {
     if sets::any(shared) {
-        return adjacency::actions_into(rows, 256);
+        return adjacency::actions_entering(rows, set);
     }
     adjacency::actions_into(rows, b)
 }
@@ -117,7 +128,7 @@ fn turn_of(
     viewed: &[u64],
     blocks: &[u64],
 ) -> Turn
-    requires { ⌜ (b < 256) × (260 ≤ length (now rows)) × (length (now related) ≡ 1024) × (length (now viewed) ≡ 1024) × (length (now blocks) ≡ 1024) ⌝ }
+    requires { ⌜ (b < 256) × (256 ≤ length (now rows)) × (length (now related) ≡ 1024) × (length (now viewed) ≡ 1024) × (length (now blocks) ≡ 1024) ⌝ }
     ensures { λ r. ⌜ Turning (now (rows .entry)) all shared b (now (related .entry)) (now (viewed .entry)) (now (blocks .entry))
         (r .members) (r .inside) (r .outside) (r .actions) (r .whole) ⌝ }
 {
@@ -125,8 +136,8 @@ fn turn_of(
     let seen = sets::at(viewed, b);
     let members = sets::at(blocks, b);
     let outside = sets::minus(seen, inside);
-    let actions = actions_of(rows, shared, b);
     let whole = is_whole(seen, all, inside);
+    let actions = actions_of(rows, shared, b, watched(inside, outside, whole));
     Turn {
         members: members,
         inside: inside,
@@ -184,7 +195,7 @@ fn run(
     let mut pending = [0u64; 4];
     partition::update_pending(related, viewed, blocks, shared, all, &mut pending);
     let mut steps = 0;
-    while sets::any(pending) {
+    while partition::any_pending(&pending) {
         let b = partition::next_block(&pending, schedule, steps);
         let touched = refine_step(places, rows, all, shared, b, related, viewed, blocks);
         let single = partition::single_rows(blocks, sets::meet(touched, shared));
@@ -201,7 +212,7 @@ fn keep_enabled(table: &transitions::Table, rows: &[u64], related: &mut [u64])
     requires { ⌜ (length (now related) ≡ 1024) × ((places : List ℕ) × Index (now table) places (now rows)) ⌝ }
     ensures { λ _. ⌜ (let t = now (table .entry) in
         now (related .exit) ≡ setsOf 256 (λ p q. setAt (now (related .entry)) p q
-        && allBelow (countOf t) (λ i. eqb (sourceAt t i) p ⇒ setAt (now (rows .entry)) (64 + 2 * actionAt t i) q))) ⌝ }
+        && allBelow (countOf t) (λ i. eqb (sourceAt t i) p ⇒ setAt (now (rows .entry)) (63 + 2 * actionAt t i) q))) ⌝ }
 {
     let k = transitions::count(table);
     let mut i = 0;
@@ -250,7 +261,7 @@ fn refine_in(
     requires { ⌜ (let words = statesOf (now table) * rowWords (statesOf (now table)) in
         (length (now related) ≡ words) × (length (now blocks) ≡ words)) ⌝ }
     requires { ⌜ (512 * (actionsOf (now table) + 1) ≤ length (now places))
-        × ((66 + 2 * actionsOf (now table) + 2 * countOf (now table)) * 4 ≤ length (now rows)) ⌝ }
+        × ((65 + 2 * actionsOf (now table) + 2 * countOf (now table)) * 4 ≤ length (now rows)) ⌝ }
     requires { ⌜ ((x : ℕ) → getD (now places) x 0 ≡ 0) × ((x : ℕ) → getD (now rows) x 0 ≡ 0) ⌝ }
     ensures { λ r. ⌜ (let t = now (table .entry) in
         let run = coarsest (tableLts t) (relationOf (statesOf t) (now (start .entry))) (now (schedule .entry)) in
@@ -297,7 +308,7 @@ fn refine_large(
         × (now (blocks .exit) ≡ matrixOf (statesOf t) (block (run .final .related)))) ⌝ }
 {
     let mut places = [0u16; 33280];
-    let mut rows = [0u64; 8968];
+    let mut rows = [0u64; 8964];
     refine_in(
         table,
         start,
@@ -309,7 +320,7 @@ fn refine_large(
     )
 }
 
-// The run on a table of at most 4 actions and 64 transitions: small arrays are cleared sooner.
+// The run on a table of at most 2 actions and 32 transitions: small arrays are cleared sooner.
 fn refine_small(
     table: &transitions::Table,
     start: &[u64],
@@ -317,7 +328,7 @@ fn refine_small(
     related: &mut [u64],
     blocks: &mut [u64],
 ) -> usize
-    requires { ⌜ Formed (now table) × Start (statesOf (now table)) (now start) × (actionsOf (now table) ≤ 4) × (countOf (now table) ≤ 64) ⌝ }
+    requires { ⌜ Formed (now table) × Start (statesOf (now table)) (now start) × (actionsOf (now table) ≤ 2) × (countOf (now table) ≤ 32) ⌝ }
     requires { ⌜ (let words = statesOf (now table) * rowWords (statesOf (now table)) in
         (length (now related) ≡ words) × (length (now blocks) ≡ words)) ⌝ }
     ensures { λ r. ⌜ (let t = now (table .entry) in
@@ -325,8 +336,8 @@ fn refine_small(
         (r ≡ run .steps) × (now (related .exit) ≡ matrixOf (statesOf t) (run .final .related))
         × (now (blocks .exit) ≡ matrixOf (statesOf t) (block (run .final .related)))) ⌝ }
 {
-    let mut places = [0u16; 2560];
-    let mut rows = [0u64; 808];
+    let mut places = [0u16; 1536];
+    let mut rows = [0u64; 532];
     refine_in(
         table,
         start,
@@ -358,7 +369,7 @@ pub fn refine_all(
         let run = coarsest (tableLts t) (relationOf (statesOf t) (now (start .entry))) (now (schedule .entry)) in
         now (blocks .exit) ≡ matrixOf (statesOf t) (block (run .final .related))) ⌝ }
 {
-    if (transitions::actions(table) <= 4) & (transitions::count(table) <= 64) {
+    if (transitions::actions(table) <= 2) & (transitions::count(table) <= 32) {
         return refine_small(table, start, schedule, related, blocks);
     }
     refine_large(table, start, schedule, related, blocks)

@@ -3,9 +3,9 @@ ghost use mathlib.Core.Path.{_≡_};
 ghost use mathlib.Core.Bool.{Bool, true, false, cond, not, _&&_, _||_, xor};
 ghost use Prim.Native.Nat.{ℕ, _+_, _*_, _/_, _%_, _<_, _≤_};
 ghost use lib.Dec.{eqb};
-ghost use lib.ListN.{length};
-ghost use Rattle.lts.specs.Bounded.{anyBelow, restrict};
-ghost use Rattle.rows.specs.Rows.{inRow, rowOf};
+ghost use lib.ListN.{length, getD};
+ghost use Rattle.lts.specs.Bounded.{anyBelow, passing, restrict};
+ghost use Rattle.rows.specs.Rows.{bit, inRow, rowOf};
 ghost use Rattle.relation.specs.Matrix.{relationOf, matrixOf, Matrix};
 ghost use Rattle.sets.specs.Sets.{setAt, setsOf};
 
@@ -42,6 +42,38 @@ pub fn differ(a: [u64; 4], b: [u64; 4]) -> bool
     ensures { λ r. ⌜ r ≡ anyBelow 256 (λ q. xor (inRow a q) (inRow b q)) ⌝ }
 {
     any([a[0] ^ b[0], a[1] ^ b[1], a[2] ^ b[2], a[3] ^ b[3]])
+}
+
+// The place of one number j, ascending, of a word: it has j ones below it.
+fn one_at(word: u64, j: usize) -> usize
+    requires { ⌜ j < length (passing 64 (bit word)) ⌝ }
+    ensures { λ r. ⌜ (r < 64) × (bit word r ≡ true) × (length (passing r (bit word)) ≡ j) ⌝ }
+{
+    let mut left = word;
+    let mut i = 0;
+    while i < j {
+        left = left & (left - 1);
+        i += 1;
+    }
+    u64::trailing_zeros(left) as usize
+}
+
+// Number j, ascending, of the states of the set, which has more than j.
+pub fn member_at(a: &[u64], j: usize) -> usize
+    requires { ⌜ (4 ≤ length (now a)) × (j < length (passing 256 (inRow (now a)))) ⌝ }
+    ensures { λ r. ⌜ r ≡ getD (passing 256 (inRow (now (a .entry)))) j 0 ⌝ }
+{
+    let mut left = j;
+    let mut c = 0;
+    while c < 4 {
+        let ones = u64::count_ones(a[c]) as usize;
+        if left < ones {
+            return 64 * c + one_at(a[c], left);
+        }
+        left -= ones;
+        c += 1;
+    }
+    256
 }
 
 // Set p of the list.

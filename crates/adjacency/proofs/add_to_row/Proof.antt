@@ -59,7 +59,7 @@ returns c =
     c .before .before .before .wide .ensures .0
     ∙ ap (λ (l : List ℕ). getD l (a .x) 0) (c .before .before .before .before .before .before .before .before .claim .ensures) in (
       c .before .before .before .before .before .before .before .before .claim .ensures,
-      c .before .before .insert .ensures ∙ ap (λ (n : ℕ). rowOf (length old) (λ y. eqb y (256 * (65 + n) + a .q) || inRow old y)) read,
+      c .before .before .insert .ensures ∙ ap (λ (n : ℕ). rowOf (length old) (λ y. eqb y (256 * (64 + n) + a .q) || inRow old y)) read,
     )
 
 pub add-to-row-spec : {M : Type 1} → statement M

@@ -43,7 +43,7 @@ add-to-row-requires-2 c κs =
     let x = targetsPlace (a .a) (a .p) in
     let y = sourcesPlace (a .a) (a .t) in
     let inside : x < length (now (a .places)) = omega (arith, start .pre .0) in
-    let room : (65 + a .fresh) * 4 + 4 ≤ length (now (a .rows)) = omega (arith, start .pre .0) in
+    let room : (64 + a .fresh) * 4 + 4 ≤ length (now (a .rows)) = omega (arith, start .pre .0) in
     let rooms = claimed-rooms (now (a .places)) x (a .fresh) inside (length (now (a .rows))) room (start .pre .1) y in
     let same : getD (done .last .0) y 0 ≡ getD (claimed (now (a .places)) x (a .fresh)) y 0 = ap (λ (l : List ℕ). getD l y 0) (done .ensures .0) in
     (search needs, search needs, search needs, search needs, omega (arith, same, rooms))
@@ -90,18 +90,6 @@ add-insert-5 c = search needs
 insert-requires-3 : tie.Need-insert-requires-3
 insert-requires-3 c κs = search needs
 
-mul-insert-6 : tie.Need-mul-insert-6
-mul-insert-6 c = search needs
-
-sub-insert-2 : tie.Need-sub-insert-2
-sub-insert-2 c = search needs
-
-add-insert-6 : tie.Need-add-insert-6
-add-insert-6 c = search needs
-
-insert-requires-4 : tie.Need-insert-requires-4
-insert-requires-4 c κs = search needs
-
 same-length : tie.Need-same-length
 same-length c = search needs
 
@@ -110,8 +98,7 @@ same-length-2 c = search needs
 
 returns : tie.Need-returns
 returns c =
-    let sixth = c .before .before in
-    let fifth = sixth .before .before .before .before in
+    let fifth = c .before .before in
     let fourth = fifth .before .before .before .before in
     let third = fourth .before .before .before .before in
     let second = third .before .before .before .before .before .before in
@@ -121,7 +108,7 @@ returns c =
     let f = first .add-to-row .ensures in
     let s = second .add-to-row2 .ensures in
     all-put (now (a .places)) (a .fresh) (a .p) (a .a) (a .t) (start .pre .0 .2) (now (a .rows)) (f .0) (f .1) (s .0) (s .1)
-    (third .insert .ensures) (fourth .insert2 .ensures) (fifth .insert3 .ensures) (sixth .insert4 .ensures)
+    (third .insert .ensures) (fourth .insert2 .ensures) (fifth .insert3 .ensures)
 
 pub add-transition-spec : {M : Type 1} → statement M
 add-transition-spec =
@@ -149,10 +136,6 @@ add-transition-spec =
     sub-insert
     add-insert-5
     insert-requires-3
-    mul-insert-6
-    sub-insert-2
-    add-insert-6
-    insert-requires-4
     same-length
     same-length-2
     returns)

@@ -62,7 +62,7 @@ add-transition-requires c κs =
       c .before .before .before .before .before .loop-test .taken,
       c .before .before .before .before .before .before .before .before .count .ensures .0,
     ) in
-    let wide : (66 + 2 * actionsOf t + 2 * at .i) * 4 ≤ length (at .rows) = omega (arith, start .pre .0 .2, at .inv .2, low) in
+    let wide : (65 + 2 * actionsOf t + 2 * at .i) * 4 ≤ length (at .rows) = omega (arith, start .pre .0 .2, at .inv .2, low) in
     let few = ok .states in
     let labels = ok .labels in
     let size = ok .size in

@@ -26,7 +26,7 @@ at-requires c κs = search needs
 returns : tie.Need-returns
 returns c =
     let rows = now (c .before .before .before .before .before .args .rows) in
-    c .at .ensures ∙ ap (λ (n : ℕ). rowOf 4 (setAt rows (65 + n))) (c .before .wide .ensures .0)
+    c .at .ensures ∙ ap (λ (n : ℕ). rowOf 4 (setAt rows (64 + n))) (c .before .wide .ensures .0)
 
 pub row-of-spec : {M : Type 1} → statement M
 row-of-spec =

@@ -53,7 +53,7 @@ rem-member-at c =
     omega (arith, c .row-count .ensures, length-passing 256 S, count-some S (start .pre))
 
 member-at-requires : tie.Need-member-at-requires
-member-at-requires c κs = (search needs, search needs, number-below (inRow (now (c .before .before .before .before .before .before .before .args .pending))) _ (c .row-count .ensures) (c .before .before .before .before .before .before .before .pre))
+member-at-requires c κs = (search needs, number-below (inRow (now (c .before .before .before .before .before .before .before .args .pending))) _ (c .row-count .ensures) (c .before .before .before .before .before .before .before .pre))
 
 returns : tie.Need-returns
 returns c =

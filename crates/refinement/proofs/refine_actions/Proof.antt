@@ -8,6 +8,7 @@ use lib.Bits.{bitAnd}
 use lib.Count.{trailingZeros}
 use denote.Ref.{now}
 use Rattle.rows.specs.Rows.{inRow}
+use Rattle.sets.specs.Sets.{setAt}
 use Rattle.sets.proofs.Lists.{sets-long}
 use Rattle.refinement.specs.Engine.{Owning, Fixed, removedBy, hitsBy}
 use Rattle.refinement.proofs.Actions.{Going, going-begin, going-next, going-end, next-most, next-low}
@@ -20,7 +21,7 @@ use Rattle.refinement.proofs.refine_actions.Tie as tie
 abbrev Inv-loop : tie.InvT-loop
 Inv-loop places rows turn shared related₀ blocks₀ touched₀ left₀ related blocks touched left =
     (length related ≡ 1024) × (length blocks ≡ 1024) × ((t : List ℕ) → Owning t blocks₀
-    → Fixed t places rows (turn .actions) (inRow (turn .members)) (inRow (turn .inside)) (inRow (turn .outside)) (inRow shared) (turn .whole)
+    → Fixed t places rows (turn .actions) (inRow (turn .members)) (inRow (turn .inside)) (inRow (turn .outside)) (setAt blocks₀) (turn .whole)
     → (i : ℕ) × Going t (removedBy t (inRow (turn .inside)) (inRow (turn .outside))) (hitsBy t (inRow (turn .members))) (turn .actions) (inRow shared) related₀ blocks₀ i left related blocks touched)
 
 abbrev μ-loop : tie.MeasureT-loop
@@ -33,7 +34,7 @@ loop-holds c =
       start .pre .1,
       λ t own fixed. (
         0,
-        going-begin fixed (now (start .args .related)) (now (start .args .blocks)) (start .pre .0) (start .pre .1) (λ j. c .before .slice-known .given j .fits)
+        going-begin (now (start .args .related)) (now (start .args .blocks)) fixed (start .pre .0) (start .pre .1) (λ j. c .before .slice-known .given j .fits)
             (λ j. c .slice-known2 .given j .fits) (start .pre .2) own _,
       ),
     )
@@ -53,7 +54,7 @@ refine-action-requires c κs =
     let at = c .before .before .before .loop in
     let p = start .pre .3 in
     let g = at .inv .2 (p .0) (p .1) (p .2) .1 in
-    let most = next-most (p .2) (now (start .args .related)) (now (start .args .blocks)) g (c .before .before .loop-test .taken) in
+    let most = next-most (now (start .args .related)) (now (start .args .blocks)) (p .2) g (c .before .before .loop-test .taken) in
     (at .inv .0, at .inv .1, g .parts, (p .0, p .2 .index, omega arith, most, g .own))
 
 join-requires : tie.Need-join-requires Inv-loop μ-loop
@@ -70,14 +71,14 @@ loop-again c =
     let r = c .before .before .before .before .before .refine-action .ensures in
     let p = start .pre .3 in
     let g = at .inv .2 (p .0) (p .1) (p .2) .1 in
-    let most = next-most (p .2) (now (start .args .related)) (now (start .args .blocks)) g some in
+    let most = next-most (now (start .args .related)) (now (start .args .blocks)) (p .2) g some in
     let act = r .0 (p .0) (p .2 .index) most (p .2 .covers) in (
       sets-long 256 _ (act .related-is),
       sets-long 256 _ (act .blocks-is),
       λ t own fixed.
           let g = at .inv .2 t own fixed .1 in
-          let most = next-most fixed (now (start .args .related)) (now (start .args .blocks)) g some in
-          (_, going-next fixed (now (start .args .related)) (now (start .args .blocks)) g some (r .0 t (fixed .index) most (fixed .covers)) (r .1) (c .join .ensures)),
+          let most = next-most (now (start .args .related)) (now (start .args .blocks)) fixed g some in
+          (_, going-next (now (start .args .related)) (now (start .args .blocks)) fixed g some (r .0 t (fixed .index) most (fixed .covers)) (r .1) (c .join .ensures)),
     )
 
 same-length : tie.Need-same-length Inv-loop μ-loop
@@ -91,7 +92,7 @@ returns c =
     let start = c .before .before .before .before .before .before in
     let at = c .before .loop in
     let p = start .pre .3 in (
-      λ t own fixed. going-end fixed (now (start .args .related)) (now (start .args .blocks)) (at .inv .2 t own fixed .1) (c .loop-test .left),
+      λ t own fixed. going-end (now (start .args .related)) (now (start .args .blocks)) fixed (at .inv .2 t own fixed .1) (c .loop-test .left),
       at .inv .2 (p .0) (p .1) (p .2) .1 .parts,
     )
 

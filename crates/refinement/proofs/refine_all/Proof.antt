@@ -19,7 +19,7 @@ refine-small-requires c κs =
     let few = c .before .before .if1 .taken in
     let a = c .before .before .before .before .actions in
     let k = c .before .before .before .count in
-    ((p .0 .0, p .0 .1, omega (arith, leb-true (a .result) 4 (and-fst (leb (a .result) 4) (leb (k .result) 64) few), a .ensures .0), omega (arith, leb-true (k .result) 64 (and-snd (leb (a .result) 4) (leb (k .result) 64) few), k .ensures .0)), p .1)
+    ((p .0 .0, p .0 .1, omega (arith, leb-true (a .result) 2 (and-fst (leb (a .result) 2) (leb (k .result) 32) few), a .ensures .0), omega (arith, leb-true (k .result) 32 (and-snd (leb (a .result) 2) (leb (k .result) 32) few), k .ensures .0)), p .1)
 
 same-length : tie.Need-same-length
 same-length c = search needs

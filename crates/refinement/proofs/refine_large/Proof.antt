@@ -17,7 +17,7 @@ refine-in-requires : tie.Need-refine-in-requires
 refine-in-requires c κs =
     let p = c .before .before .before .before .before .before .before .before .pre in
     let ok = p .0 .0 in
-    ((ok, p .0 .1), (p .1, ((omega (arith, length-replicate {A = ℕ} 33280 0, ok .labels), omega (arith, length-replicate {A = ℕ} 8968 0, ok .labels, ok .size)), (getD-zeros 33280, getD-zeros 8968))))
+    ((ok, p .0 .1), (p .1, ((omega (arith, length-replicate {A = ℕ} 33280 0, ok .labels), omega (arith, length-replicate {A = ℕ} 8964 0, ok .labels, ok .size)), (getD-zeros 33280, getD-zeros 8964))))
 
 same-length : tie.Need-same-length
 same-length c = search needs

@@ -57,17 +57,17 @@ loop-holds c = (
   },
 )
 
-any-requires : tie.Need-any-requires Inv-loop μ-loop
-any-requires c κs = search needs
+any-pending-requires : tie.Need-any-pending-requires Inv-loop μ-loop
+any-pending-requires c κs = search needs
 
 next-block-requires : tie.Need-next-block-requires Inv-loop μ-loop
-next-block-requires c κs = sym (c .before .before .any .ensures) ∙ c .before .if1 .taken
+next-block-requires c κs = sym (c .before .before .any-pending .ensures) ∙ c .before .if1 .taken
 
 refine-step-requires : tie.Need-refine-step-requires Inv-loop μ-loop
 refine-step-requires c κs =
-    let p = c .before .before .before .before .before .before .before .before .before .before .before .before .before .before .before .before .before .before .before .before .before .before .before .pre in
-    let at = c .before .before .before .before .before .before .before .loop .inv .1 (p .0) (p .1) (p .2) (p .3) (p .4) (p .5) in
-    let some = sym (c .before .before .before .before .before .before .any .ensures) ∙ c .before .before .before .before .before .if1 .taken in
+    let p = c .before .before .before .before .before .before .before .before .before .before .before .before .before .before .before .before .before .before .before .before .before .before .before .before .pre in
+    let at = c .before .before .before .before .before .before .before .before .loop .inv .1 (p .0) (p .1) (p .2) (p .3) (p .4) (p .5) in
+    let some = sym (c .before .before .before .before .before .before .any-pending .ensures) ∙ c .before .before .before .before .before .if1 .taken in
     (p .0, loop-step (p .2 .formed) (p .3) (at .state) (at .pending-is) some _ (c .before .before .before .next-block .ensures) (p .2) (p .4) (at .parts))
 
 meet-requires : tie.Need-meet-requires Inv-loop μ-loop
@@ -75,9 +75,9 @@ meet-requires c κs = search needs
 
 single-rows-requires-2 : tie.Need-single-rows-requires-2 Inv-loop μ-loop
 single-rows-requires-2 c κs =
-    let p = c .before .before .before .before .before .before .before .before .before .before .before .before .before .before .before .before .before .before .before .before .before .before .before .before .before .before .before .before .before .before .before .before .pre in
-    let at = c .before .before .before .before .before .before .before .before .before .before .before .before .before .before .before .before .loop .inv .1 (p .0) (p .1) (p .2) (p .3) (p .4) (p .5) in
-    let some = sym (c .before .before .before .before .before .before .before .before .before .before .before .before .before .before .before .any .ensures) ∙ c .before .before .before .before .before .before .before .before .before .before .before .before .before .before .if1 .taken in
+    let p = c .before .before .before .before .before .before .before .before .before .before .before .before .before .before .before .before .before .before .before .before .before .before .before .before .before .before .before .before .before .before .before .before .before .pre in
+    let at = c .before .before .before .before .before .before .before .before .before .before .before .before .before .before .before .before .before .loop .inv .1 (p .0) (p .1) (p .2) (p .3) (p .4) (p .5) in
+    let some = sym (c .before .before .before .before .before .before .before .before .before .before .before .before .before .before .before .any-pending .ensures) ∙ c .before .before .before .before .before .before .before .before .before .before .before .before .before .before .if1 .taken in
     let made = c .before .before .before .before .before .before .before .before .refine-step .ensures (p .0) (loop-step (p .2 .formed) (p .3) (at .state) (at .pending-is) some _ (c .before .before .before .before .before .before .before .before .before .before .before .before .next-block .ensures) (p .2) (p .4) (at .parts)) in
     sets-long 256 _ (made .blocks-is)
 
@@ -85,14 +85,14 @@ minus-requires-2 : tie.Need-minus-requires-2 Inv-loop μ-loop
 minus-requires-2 c κs = search needs
 
 slice-aggregate-update-pending-2 : tie.Need-slice-aggregate-update-pending-2 Inv-loop μ-loop
-slice-aggregate-update-pending-2 c = sym (c .before .before .before .before .before .before .before .before .before .before .before .before .before .before .before .before .before .before .before .before .before .before .loop .inv .0)
+slice-aggregate-update-pending-2 c = sym (c .before .before .before .before .before .before .before .before .before .before .before .before .before .before .before .before .before .before .before .before .before .before .before .loop .inv .0)
 
 update-pending-requires-2 : tie.Need-update-pending-requires-2 Inv-loop μ-loop
 update-pending-requires-2 c κs =
-    let p = c .before .before .before .before .before .before .before .before .before .before .before .before .before .before .before .before .before .before .before .before .before .before .before .before .before .before .before .before .before .before .before .before .before .before .before .before .before .before .pre in
-    let loop = c .before .before .before .before .before .before .before .before .before .before .before .before .before .before .before .before .before .before .before .before .before .before .loop in
+    let p = c .before .before .before .before .before .before .before .before .before .before .before .before .before .before .before .before .before .before .before .before .before .before .before .before .before .before .before .before .before .before .before .before .before .before .before .before .before .before .before .pre in
+    let loop = c .before .before .before .before .before .before .before .before .before .before .before .before .before .before .before .before .before .before .before .before .before .before .before .loop in
     let at = loop .inv .1 (p .0) (p .1) (p .2) (p .3) (p .4) (p .5) in
-    let some = sym (c .before .before .before .before .before .before .before .before .before .before .before .before .before .before .before .before .before .before .before .before .before .any .ensures) ∙ c .before .before .before .before .before .before .before .before .before .before .before .before .before .before .before .before .before .before .before .before .if1 .taken in
+    let some = sym (c .before .before .before .before .before .before .before .before .before .before .before .before .before .before .before .before .before .before .before .before .before .any-pending .ensures) ∙ c .before .before .before .before .before .before .before .before .before .before .before .before .before .before .before .before .before .before .before .before .if1 .taken in
     let made = c .before .before .before .before .before .before .before .before .before .before .before .before .before .before .refine-step .ensures (p .0) (loop-step (p .2 .formed) (p .3) (at .state) (at .pending-is) some _ (c .before .before .before .before .before .before .before .before .before .before .before .before .before .before .before .before .before .before .next-block .ensures) (p .2) (p .4) (at .parts)) in (
       (sets-long 256 _ (made .related-is), sets-long 256 _ (made .viewed-is), sets-long 256 _ (made .blocks-is), loop .inv .0),
       (
@@ -103,19 +103,19 @@ update-pending-requires-2 c κs =
 
 add-steps : tie.Need-add-steps Inv-loop μ-loop
 add-steps c =
-    let p = c .before .before .before .before .before .before .before .before .before .before .before .before .before .before .before .before .before .before .before .before .before .before .before .before .before .before .before .before .before .before .before .before .before .before .before .before .before .before .before .before .pre in
-    let loop = c .before .before .before .before .before .before .before .before .before .before .before .before .before .before .before .before .before .before .before .before .before .before .before .before .loop in
+    let p = c .before .before .before .before .before .before .before .before .before .before .before .before .before .before .before .before .before .before .before .before .before .before .before .before .before .before .before .before .before .before .before .before .before .before .before .before .before .before .before .before .before .pre in
+    let loop = c .before .before .before .before .before .before .before .before .before .before .before .before .before .before .before .before .before .before .before .before .before .before .before .before .before .loop in
     let at = loop .inv .1 (p .0) (p .1) (p .2) (p .3) (p .4) (p .5) in
-    let some = sym (c .before .before .before .before .before .before .before .before .before .before .before .before .before .before .before .before .before .before .before .before .before .before .before .any .ensures) ∙ c .before .before .before .before .before .before .before .before .before .before .before .before .before .before .before .before .before .before .before .before .before .before .if1 .taken in
+    let some = sym (c .before .before .before .before .before .before .before .before .before .before .before .before .before .before .before .before .before .before .before .before .before .before .before .any-pending .ensures) ∙ c .before .before .before .before .before .before .before .before .before .before .before .before .before .before .before .before .before .before .before .before .before .before .if1 .taken in
     let low = small-steps (statesOf (p .0)) (loop .steps) (p .2 .formed .states) (loop-below (p .2 .formed) (p .3) (at .state) (at .pending-is) some) in
     omega (arith, low)
 
 loop-less : tie.Need-loop-less Inv-loop μ-loop
 loop-less c =
-    let p = c .before .before .before .before .before .before .before .before .before .before .before .before .before .before .before .before .before .before .before .before .before .before .before .before .before .before .before .before .before .before .before .before .before .before .before .before .before .before .before .before .pre in
-    let loop = c .before .before .before .before .before .before .before .before .before .before .before .before .before .before .before .before .before .before .before .before .before .before .before .before .loop in
+    let p = c .before .before .before .before .before .before .before .before .before .before .before .before .before .before .before .before .before .before .before .before .before .before .before .before .before .before .before .before .before .before .before .before .before .before .before .before .before .before .before .before .before .pre in
+    let loop = c .before .before .before .before .before .before .before .before .before .before .before .before .before .before .before .before .before .before .before .before .before .before .before .before .before .loop in
     let at = loop .inv .1 (p .0) (p .1) (p .2) (p .3) (p .4) (p .5) in
-    let some = sym (c .before .before .before .before .before .before .before .before .before .before .before .before .before .before .before .before .before .before .before .before .before .before .before .any .ensures) ∙ c .before .before .before .before .before .before .before .before .before .before .before .before .before .before .before .before .before .before .before .before .before .before .if1 .taken in
+    let some = sym (c .before .before .before .before .before .before .before .before .before .before .before .before .before .before .before .before .before .before .before .before .before .before .before .any-pending .ensures) ∙ c .before .before .before .before .before .before .before .before .before .before .before .before .before .before .before .before .before .before .before .before .before .before .if1 .taken in
     let low = small-steps (statesOf (p .0)) (loop .steps) (p .2 .formed .states) (loop-below (p .2 .formed) (p .3) (at .state) (at .pending-is) some) in
     omega (arith, low)
 
@@ -123,8 +123,8 @@ loop-again : tie.Need-loop-again Inv-loop μ-loop
 loop-again c = (
   set-of-long _ (c .before .update-pending2 .ensures),
   λ t start ix st all-is state.
-      let at = c .before .before .before .before .before .before .before .before .before .before .before .before .before .before .before .before .before .before .before .before .before .before .before .before .loop .inv .1 t start ix st all-is state in
-      let some = sym (c .before .before .before .before .before .before .before .before .before .before .before .before .before .before .before .before .before .before .before .before .before .before .before .any .ensures) ∙ c .before .before .before .before .before .before .before .before .before .before .before .before .before .before .before .before .before .before .before .before .before .before .if1 .taken in
+      let at = c .before .before .before .before .before .before .before .before .before .before .before .before .before .before .before .before .before .before .before .before .before .before .before .before .before .loop .inv .1 t start ix st all-is state in
+      let some = sym (c .before .before .before .before .before .before .before .before .before .before .before .before .before .before .before .before .before .before .before .before .before .before .before .any-pending .ensures) ∙ c .before .before .before .before .before .before .before .before .before .before .before .before .before .before .before .before .before .before .before .before .before .before .if1 .taken in
       let chose = c .before .before .before .before .before .before .before .before .before .before .before .before .before .before .before .before .before .before .before .before .next-block .ensures in
       let made = c .before .before .before .before .before .before .before .before .before .before .before .before .before .before .before .before .refine-step .ensures t (loop-step (ix .formed) st (at .state) (at .pending-is) some _ chose ix all-is (at .parts)) in
       record {
@@ -136,26 +136,26 @@ loop-again c = (
 
 same-length : tie.Need-same-length Inv-loop μ-loop
 same-length c =
-    let p = c .before .before .before .before .before .before .before .before .before .before .before .before .before .before .before .before .before .before .pre in
-    let at = c .before .before .loop .inv .1 (p .0) (p .1) (p .2) (p .3) (p .4) (p .5) in
+    let p = c .before .before .before .before .before .before .before .before .before .before .before .before .before .before .before .before .before .before .before .pre in
+    let at = c .before .before .before .loop .inv .1 (p .0) (p .1) (p .2) (p .3) (p .4) (p .5) in
     long-related (p .2 .formed) (p .3) (at .state) ∙ sym (long-related (p .2 .formed) (p .3) (p .5))
 
 same-length-2 : tie.Need-same-length-2 Inv-loop μ-loop
 same-length-2 c =
-    let p = c .before .before .before .before .before .before .before .before .before .before .before .before .before .before .before .before .before .before .pre in
-    let at = c .before .before .loop .inv .1 (p .0) (p .1) (p .2) (p .3) (p .4) (p .5) in
+    let p = c .before .before .before .before .before .before .before .before .before .before .before .before .before .before .before .before .before .before .before .pre in
+    let at = c .before .before .before .loop .inv .1 (p .0) (p .1) (p .2) (p .3) (p .4) (p .5) in
     long-viewed (p .2 .formed) (p .3) (at .state) ∙ sym (long-viewed (p .2 .formed) (p .3) (p .5))
 
 same-length-3 : tie.Need-same-length-3 Inv-loop μ-loop
 same-length-3 c =
-    let p = c .before .before .before .before .before .before .before .before .before .before .before .before .before .before .before .before .before .before .pre in
-    let at = c .before .before .loop .inv .1 (p .0) (p .1) (p .2) (p .3) (p .4) (p .5) in
+    let p = c .before .before .before .before .before .before .before .before .before .before .before .before .before .before .before .before .before .before .before .pre in
+    let at = c .before .before .before .loop .inv .1 (p .0) (p .1) (p .2) (p .3) (p .4) (p .5) in
     long-blocks (p .2 .formed) (p .3) (at .state) ∙ sym (long-blocks (p .2 .formed) (p .3) (p .5))
 
 returns : tie.Need-returns Inv-loop μ-loop
 returns c = λ t start ix st all-is state.
-    let at = c .before .before .loop .inv .1 t start ix st all-is state in
-    let none = sym (c .before .any .ensures) ∙ c .if1 .left in
+    let at = c .before .before .before .loop .inv .1 t start ix st all-is state in
+    let none = sym (c .before .any-pending .ensures) ∙ c .if1 .left in
     (end-steps (ix .formed) st (at .state) (at .pending-is) none, end-related (ix .formed) st (at .state) (at .pending-is) none, end-blocks (ix .formed) st (at .state) (at .pending-is) none)
 
 pub run-spec : {M : Type 1} → statement M
@@ -169,7 +169,7 @@ run-spec =
     slice-aggregate-update-pending
     update-pending-requires
     loop-holds
-    any-requires
+    any-pending-requires
     next-block-requires
     refine-step-requires
     meet-requires
