@@ -81,7 +81,8 @@ fn compare_by(first: &[u8], second: &[u8], ready: bool) -> Compared
     match reading {
         inputs::Both::Refused(r) => Compared::Refused(r),
         inputs::Both::Readable(h, g, m) => {
-            let table = transitions::load_both(first, h, second, g, &to, m);
+            let mut table = transitions::empty();
+            transitions::load_both(first, h, second, g, &to, m, &mut table);
             compare_started(&table, ready, h.states)
         }
     }

@@ -46,7 +46,8 @@ pub fn join(first: &[u8], second: &[u8], out: &mut [u8]) -> Joined
     match reading {
         inputs::Both::Refused(r) => Joined::Refused(r),
         inputs::Both::Readable(h, g, m) => {
-            let table = transitions::load_both(first, h, second, g, &to, m);
+            let mut table = transitions::empty();
+            transitions::load_both(first, h, second, g, &to, m, &mut table);
             let named = h.named | g.named;
             let length = normal_form::table_length(&table, named);
             if out.len() < length {

@@ -3,7 +3,7 @@ ghost use mathlib.Core.Path.{_≡_};
 ghost use mathlib.Core.Bool.{false, cond, _||_};
 ghost use mathlib.Core.List.{List};
 ghost use Prim.Native.Nat.{ℕ, _+_, _*_, _<_, _≤_};
-ghost use lib.ListN.{length, getD, drop};
+ghost use lib.ListN.{length, getD, drop, replicate};
 ghost use Rattle.lts.specs.Bounded.{passing};
 ghost use Rattle.lts.specs.System.{Lts, into};
 ghost use Rattle.lts.specs.Union.{disjointUnion};
@@ -408,8 +408,15 @@ pub fn load(s: &[u8], h: encoding::Header) -> Table
     load_mapped(s, h, &maps, h.states, h.actions)
 }
 
-// The table of two readable sheets side by side, with m actions: the states of the second follow those of the first, and its actions go where `to`
-// says.
+// A table that is all zeros.
+pub fn empty() -> Table
+    ensures { λ r. ⌜ r ≡ replicate {A = ℕ} 3588 0 ⌝ }
+{
+    [0u16; 3588]
+}
+
+// Loads two readable sheets side by side into an empty table, with m actions: the states of the second follow those of the first, and its actions go
+// where `to` says.
 pub fn load_both(
     first: &[u8],
     h: encoding::Header,
@@ -417,23 +424,22 @@ pub fn load_both(
     g: encoding::Header,
     to: &ActionMap,
     m: usize,
-) -> Table
-    requires { ⌜ ReadableAs (now first) h × ReadableAs (now second) g ⌝ }
+    table: &mut Table,
+)
+    requires { ⌜ ReadableAs (now first) h × ReadableAs (now second) g × (now table ≡ replicate {A = ℕ} 3588 0) ⌝ }
     requires { ⌜ (h .states + g .states ≤ 256) × (h .transitions + g .transitions ≤ 1024) ⌝ }
     requires { ⌜ (h .actions ≤ m) × (m ≤ 64) × ((b : ℕ) → 1 ≤ b → b ≤ g .actions → (1 ≤ getD (now to) b 0) × (getD (now to) b 0 ≤ m)) ⌝ }
-    ensures { λ r. ⌜ (let M = mapped (g .states) m (λ p. p) (λ b. getD (now (to .entry)) b 0) (ltsOf (now (second .entry))) in
-        Holds (disjointUnion (ltsOf (now (first .entry))) M) r) ⌝ }
+    ensures { λ _. ⌜ (let M = mapped (g .states) m (λ p. p) (λ b. getD (now (to .entry)) b 0) (ltsOf (now (second .entry))) in
+        Holds (disjointUnion (ltsOf (now (first .entry))) M) (now (table .exit))) ⌝ }
 {
-    let mut table = [0u16; 3588];
     let n = h.states + g.states;
     let same = &same_actions(m);
     let own = raised(h, 0, same);
-    load_rows(first, h, &own, 0, h.states, &mut table);
+    load_rows(first, h, &own, 0, h.states, table);
     let behind = raised(g, h.states, to);
-    load_rows(second, g, &behind, h.states, n, &mut table);
-    let k = offset(&table, n);
-    put_counts(&mut table, n, m, k);
-    table
+    load_rows(second, g, &behind, h.states, n, table);
+    let k = offset(table, n);
+    put_counts(table, n, m, k);
 }
 
 // The states with the end mark.

@@ -19,19 +19,22 @@ enum-known-reading c = search needs
 enum-known-reading-2 : tie.Need-enum-known-reading-2
 enum-known-reading-2 c = search needs
 
+empty-requires : tie.Need-empty-requires
+empty-requires c κs = search needs
+
 load-both-requires : tie.Need-load-both-requires
 load-both-requires c κs =
-    let a = c .before .before in
+    let a = c .before .before .before .before in
     let e = a .reading2 .given .1 in
     let r = a .before .before .read-both .ensures in
     let j = joinable _ _ (sym (r .0) ∙ e) in
     let k = r .1 .matches _ _ _ e in
-    ((j .one, j .two), ((j .states, j .transitions), (own-actions j k, j .labels, sent-actions j k)))
+    ((j .one, j .two, c .before .before .empty .ensures), ((j .states, j .transitions), (own-actions j k, j .labels, sent-actions j k)))
 
 compare-started-requires : tie.Need-compare-started-requires
 unfolding mapped
 compare-started-requires c κs =
-    let a = c .before .before .before .before in
+    let a = c .before .before .before .before .before .before in
     let j = joinable _ _ (sym (a .before .before .read-both .ensures .0) ∙ a .reading2 .given .1) in
     let k = c .before .load-both .ensures in
     let n = joined-states _ _ (j .one) _ k in
@@ -42,7 +45,7 @@ returns c = unread _ _ _ (sym (c .before .before .before .read-both .ensures .0)
 
 returns-2 : tie.Need-returns-2
 returns-2 c =
-    let a = c .before .before .before .before .before in
+    let a = c .before .before .before .before .before .before .before in
     let e = a .reading2 .given .1 in
     let r = a .before .before .read-both .ensures in
     let k = joined-holds (joinable _ _ (sym (r .0) ∙ e)) (r .1 .matches _ _ _ e) (c .before .before .load-both .ensures) in
@@ -55,6 +58,7 @@ compare-by-spec =
     read-both-requires
     enum-known-reading
     enum-known-reading-2
+    empty-requires
     load-both-requires
     compare-started-requires
     returns

@@ -19,21 +19,24 @@ enum-known-reading c = search needs
 enum-known-reading-2 : tie.Need-enum-known-reading-2
 enum-known-reading-2 c = search needs
 
+empty-requires : tie.Need-empty-requires
+empty-requires c κs = search needs
+
 load-both-requires : tie.Need-load-both-requires
 load-both-requires c κs =
-    let a = c .before .before in
+    let a = c .before .before .before .before in
     let e = a .reading2 .given .1 in
     let r = a .before .before .read-both .ensures in
     let j = joinable _ _ (sym (r .0) ∙ e) in
     let k = r .1 .matches _ _ _ e in
-    ((j .one, j .two), ((j .states, j .transitions), (own-actions j k, j .labels, sent-actions j k)))
+    ((j .one, j .two, c .before .before .empty .ensures), ((j .states, j .transitions), (own-actions j k, j .labels, sent-actions j k)))
 
 table-length-requires : tie.Need-table-length-requires
 table-length-requires c κs = search needs
 
 returns : tie.Need-returns
 returns c =
-    let a = c .before .before .before .before .before .before .before .before in
+    let a = c .before .before .before .before .before .before .before .before .before .before in
     let e = a .reading2 .given .1 in
     let r = a .before .before .read-both .ensures in
     let j = joinable _ _ (sym (r .0) ∙ e) in
@@ -45,7 +48,7 @@ slice-aggregate-put-records c = search needs
 
 put-records-requires : tie.Need-put-records-requires
 put-records-requires c κs =
-    let a = c .before .before .before .before .before .before .before .before .before .before in
+    let a = c .before .before .before .before .before .before .before .before .before .before .before .before in
     let e = a .reading2 .given .1 in
     let r = a .before .before .read-both .ensures in
     (joinable _ _ (sym (r .0) ∙ e), r .1 .matches _ _ _ e, refl)
@@ -60,7 +63,7 @@ slice-aggregate-write-table c =
 
 write-table-requires : tie.Need-write-table-requires
 write-table-requires c κs =
-    let a = c .before .before .before .before .before .before .before .before .before .before .before .before .before .before .before in
+    let a = c .before .before .before .before .before .before .before .before .before .before .before .before .before .before .before .before .before in
     let e = a .reading2 .given .1 in
     let r = a .before .before .read-both .ensures in
     let j = joinable _ _ (sym (r .0) ∙ e) in
@@ -78,7 +81,7 @@ same-length c = search needs
 
 returns-3 : tie.Need-returns-3
 returns-3 c =
-    let a = c .before .before .before .before .before .before .before .before .before .before .before .before .before .before .before .before .before .before in
+    let a = c .before .before .before .before .before .before .before .before .before .before .before .before .before .before .before .before .before .before .before .before in
     let e = a .reading2 .given .1 in
     let r = a .before .before .read-both .ensures in
     let j = joinable _ _ (sym (r .0) ∙ e) in
@@ -93,6 +96,7 @@ join-spec =
     read-both-requires
     enum-known-reading
     enum-known-reading-2
+    empty-requires
     load-both-requires
     table-length-requires
     returns

@@ -1,9 +1,9 @@
 -- `transitions::load_both` meets its contract: the states of the first, then those of the second, and the counts. Assumes nothing.
 use Prim.Native.Nat.{ℕ, _≤_}
-use mathlib.Core.Path.{_≡_}
+use mathlib.Core.Path.{_≡_, subst⁻¹}
 use mathlib.Core.List.{List}
 use native.Mathlib.Omega.{arith}
-use lib.ListN.{getD, replicate}
+use lib.ListN.{getD}
 use denote.Ref.{now}
 use Rattle.lts.specs.System.{Lts}
 use Rattle.lts.specs.Union.{disjointUnion}
@@ -54,12 +54,15 @@ module _ (c : tie.Start) where
       → Keeps (h .states) (h .actions) own
   keeps r e = raises-keeps r (λ a l k. e a l (omega (arith, k, both .own)))
 
-  -- after the first's states
+  -- at the beginning, and after the first's states
+  begun : {own : List ℕ} → Keeps (h .states) (h .actions) own → Loading U (now (c .args .first)) h own (c .args .m) 0 (now (c .args .table))
+  begun {own} r = subst⁻¹ (Loading U (now (c .args .first)) h own (c .args .m) 0) (c .pre .0 .2) (both-start both r)
+
   half : {own t : List ℕ} → Keeps (h .states) (h .actions) own
-      → ((L : Lts) → Loading L (now (c .args .first)) h own (c .args .m) 0 (replicate 3588 0) → Images L (now (c .args .first)) own 0 (h .states)
+      → ((L : Lts) → Loading L (now (c .args .first)) h own (c .args .m) 0 (now (c .args .table)) → Images L (now (c .args .first)) own 0 (h .states)
       → Loading L (now (c .args .first)) h own (c .args .m) (h .states) t)
       → Loading U (now (c .args .first)) h own (c .args .m) (h .states) t
-  half r next = next U (both-start both r) (first-images both r)
+  half r next = next U (begun r) (first-images both r)
 
 add-n : tie.Need-add-n
 add-n c = search needs
@@ -75,7 +78,7 @@ load-rows-requires c κs =
     let d = c .before .before in
     let start = d .before .before .before .before .before .before .before in
     let own = keeps start (d .raised .ensures) (d .before .before .same-actions .ensures) in
-    (search needs, (start .args .m, U start, both-start (both start) own, first-images (both start) own))
+    (search needs, (start .args .m, U start, begun start own, first-images (both start) own))
 
 raised-requires-2 : tie.Need-raised-requires-2
 raised-requires-2 c κs = search needs
