@@ -46,20 +46,18 @@ module _ (k most : ℕ) (g : List ℕ) where
       by true true e h = let z : _≡_ {A = ℕ} 0 1 = cc in absurd (omega arith)
       by true false e h = let l = ltb-false (k * most) (length g) e in (rw (le-leb _ _ l), l)
 
-  pub whole-few : misfit ≡ false → length g / k ≤ most
-  whole-few t = div-le-of-le-mul k (whole t .1)
-
-  pub loaded-none : misfit ≡ true → (numbers : List ℕ) → length numbers ≡ most → LoadedFrom k most g 0 numbers
+  pub loaded-none : misfit ≡ true → (numbers : List ℕ) → LoadedFrom k most (length numbers) g 0 numbers
   unfolding carriedBy numbersOf
-  loaded-none t numbers l = record { few = omega arith; long = l; loaded = rw (none t) }
+  loaded-none t numbers = record { few = omega arith; long = refl; loaded = rw (none t) }
 
-  pub loaded-whole : misfit ≡ false → (old numbers : List ℕ) → length numbers ≡ most → numbers ≡ loaded k g old → LoadedFrom k most g (length g / k) numbers
-  unfolding carriedBy
-  loaded-whole t old numbers l e = record {
-    few = whole-few t;
-    long = l;
-    loaded = rw (whole t .0) (loaded-front k g old numbers e);
-  }
+  -- into an array with room for the bytes of every such buffer, or for these
+  module _ {size : ℕ} (room : length g ≤ k * most → length g ≤ k * size) (t : misfit ≡ false) where
+    pub whole-few : length g / k ≤ size
+    whole-few = div-le-of-le-mul k (room (whole t .1))
+
+    pub loaded-whole : (old numbers : List ℕ) → length numbers ≡ size → numbers ≡ loaded k g old → LoadedFrom k most size g (length g / k) numbers
+    unfolding carriedBy
+    loaded-whole old numbers l e = record { few = whole-few; long = l; loaded = rw (whole t .0) (loaded-front k g old numbers e) }
 
   -- A buffer of m numbers: its length is right in numbers exactly where it is in bytes.
   count-is : {m : ℕ} → 0 < k → m ≤ most → length g ≡ k * m → countOf k most g ≡ m

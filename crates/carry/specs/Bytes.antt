@@ -24,10 +24,14 @@ wordsOf bytes = carriedBy 8 1024 bytes
 abbrev pub stateNumbers : List ℕ → List ℕ
 stateNumbers bytes = carriedBy 2 256 bytes
 
--- the first r of the numbers are those that the bytes carry
-pub record LoadedFrom (k most : ℕ) (bytes : List ℕ) (r : ℕ) (numbers : List ℕ) : Type 0 where
-  pub few : r ≤ most
-  pub long : length numbers ≡ most
+-- an array has room for the numbers that the bytes carry
+abbrev pub Room : ℕ → ℕ → List ℕ → List ℕ → Type 0
+Room k most bytes numbers = length bytes ≤ k * most → length bytes ≤ k * length numbers
+
+-- the first r of the numbers, which are `size`, are those that the bytes carry
+pub record LoadedFrom (k most size : ℕ) (bytes : List ℕ) (r : ℕ) (numbers : List ℕ) : Type 0 where
+  pub few : r ≤ size
+  pub long : length numbers ≡ size
   pub loaded : take r numbers ≡ carriedBy k most bytes
 
 -- the first r numbers are the first of the schedule, at most `most`

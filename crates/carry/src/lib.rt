@@ -6,7 +6,7 @@ ghost use mathlib.Core.List.{_++_};
 ghost use lib.Dec.{ltb};
 ghost use lib.ListN.{length, take, drop};
 ghost use Rattle.carry.specs.Carried.{numberOf, digits, loaded, stored};
-ghost use Rattle.carry.specs.Bytes.{LoadedFrom, LoadedSchedule};
+ghost use Rattle.carry.specs.Bytes.{Room, LoadedFrom, LoadedSchedule};
 
 // The number that the k bytes from `at` on carry.
 pub fn read_number(bytes: &[u8], at: usize, k: usize) -> u64
@@ -91,9 +91,9 @@ pub fn store_numbers(numbers: &[u16], bytes: &mut [u8])
 }
 
 // Reads the words of a grid from its bytes, into the front of words. Their number is 0 where the bytes are no grid's.
-pub fn load_grid(bytes: &[u8], words: &mut [u64; 1024]) -> usize
-    requires { ⌜ length (now words) ≡ 1024 ⌝ }
-    ensures { λ r. ⌜ LoadedFrom 8 1024 (now (bytes .entry)) r (now (words .exit)) ⌝ }
+pub fn load_grid(bytes: &[u8], words: &mut [u64]) -> usize
+    requires { ⌜ Room 8 1024 (now bytes) (now words) ⌝ }
+    ensures { λ r. ⌜ LoadedFrom 8 1024 (length (now (words .entry))) (now (bytes .entry)) r (now (words .exit)) ⌝ }
 {
     let len = bytes.len();
     if (len % 8 != 0) | (8192 < len) {
@@ -104,9 +104,9 @@ pub fn load_grid(bytes: &[u8], words: &mut [u64; 1024]) -> usize
 }
 
 // Reads one number a state from its bytes, into the front of numbers. Their number is 0 where the bytes are no such list's.
-pub fn load_states(bytes: &[u8], numbers: &mut [u16; 256]) -> usize
-    requires { ⌜ length (now numbers) ≡ 256 ⌝ }
-    ensures { λ r. ⌜ LoadedFrom 2 256 (now (bytes .entry)) r (now (numbers .exit)) ⌝ }
+pub fn load_states(bytes: &[u8], numbers: &mut [u16]) -> usize
+    requires { ⌜ Room 2 256 (now bytes) (now numbers) ⌝ }
+    ensures { λ r. ⌜ LoadedFrom 2 256 (length (now (numbers .entry))) (now (bytes .entry)) r (now (numbers .exit)) ⌝ }
 {
     let len = bytes.len();
     if (len % 2 != 0) | (512 < len) {

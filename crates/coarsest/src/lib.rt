@@ -1,6 +1,6 @@
 // Coarsest (document 01, "Turns"): the coarsest simulation inside a preorder, with the steps, pairs and blocks of its run.
 ghost use mathlib.Core.Path.{_≡_};
-ghost use Prim.Native.Nat.{_*_};
+ghost use Prim.Native.Nat.{_*_, _≤_};
 ghost use lib.ListN.{length};
 ghost use Rattle.encoding.specs.Denotation.{ltsOf};
 ghost use Rattle.rows.specs.Rows.{rowWords};
@@ -50,6 +50,58 @@ fn refine_in(
     }
 }
 
+// The same with room for the blocks of every table.
+fn refine_large(
+    table: &transitions::Table,
+    start: &[u64],
+    schedule: &[u16],
+    related: &mut [u64],
+    representatives: &mut [u16],
+) -> Counts
+    requires { ⌜ Formed (now table) × Start (statesOf (now table)) (now start) × (length (now representatives) ≡ statesOf (now table))
+        × (length (now related) ≡ statesOf (now table) * rowWords (statesOf (now table))) ⌝ }
+    ensures { λ r. ⌜ (let t = now (table .entry) in
+        refined (tableLts t) (relationOf (statesOf t) (now (start .entry))) (now (schedule .entry))
+        ≡ record { reply = coarsestReply (Done r); grid = now (related .exit); representatives = now (representatives .exit) }) ⌝ }
+{
+    let mut blocks = [0u64; 1024];
+    let size = related.len();
+    refine_in(
+        table,
+        start,
+        schedule,
+        related,
+        representatives,
+        &mut blocks[..size],
+    )
+}
+
+// The same with room for the blocks of 64 states: a small array is cleared sooner.
+fn refine_small(
+    table: &transitions::Table,
+    start: &[u64],
+    schedule: &[u16],
+    related: &mut [u64],
+    representatives: &mut [u16],
+) -> Counts
+    requires { ⌜ Formed (now table) × Start (statesOf (now table)) (now start) × (length (now representatives) ≡ statesOf (now table))
+        × (length (now related) ≡ statesOf (now table) * rowWords (statesOf (now table))) × (length (now related) ≤ 64) ⌝ }
+    ensures { λ r. ⌜ (let t = now (table .entry) in
+        refined (tableLts t) (relationOf (statesOf t) (now (start .entry))) (now (schedule .entry))
+        ≡ record { reply = coarsestReply (Done r); grid = now (related .exit); representatives = now (representatives .exit) }) ⌝ }
+{
+    let mut blocks = [0u64; 64];
+    let size = related.len();
+    refine_in(
+        table,
+        start,
+        schedule,
+        related,
+        representatives,
+        &mut blocks[..size],
+    )
+}
+
 // The run on a table: K, the representatives and the counts.
 pub fn refine_table(
     table: &transitions::Table,
@@ -64,16 +116,10 @@ pub fn refine_table(
         refined (tableLts t) (relationOf (statesOf t) (now (start .entry))) (now (schedule .entry))
         ≡ record { reply = coarsestReply (Done r); grid = now (related .exit); representatives = now (representatives .exit) }) ⌝ }
 {
-    let mut blocks = [0u64; 1024];
-    let size = relation::matrix_words(transitions::states(table));
-    refine_in(
-        table,
-        start,
-        schedule,
-        related,
-        representatives,
-        &mut blocks[..size],
-    )
+    if related.len() <= 64 {
+        return refine_small(table, start, schedule, related, representatives);
+    }
+    refine_large(table, start, schedule, related, representatives)
 }
 
 // The run on a readable encoding, from a preorder, with result buffers of the right lengths.

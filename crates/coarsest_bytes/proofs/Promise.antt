@@ -77,12 +77,10 @@ module _ (s start schedule grid₀ representatives₀ : List ℕ) (reply : Reply
   pub bytes-promised : CoarsestBytesPromise s start schedule grid₀ representatives₀ reply grid representatives
   bytes-promised = record { carried = promised s (wordsOf start) (listOf schedule) (wordsOf grid₀) (stateNumbers representatives₀) reply (wordsOf grid) (stateNumbers representatives) on-numbers; stays = unwritten }
 
--- with the start's words
-pub meets : {s start schedule grid₀ representatives₀ grid representatives words : List ℕ} {reply : Reply} → words ≡ wordsOf start
-    → coarsestOnWords s words (listOf schedule) grid₀ representatives₀ ≡ record { reply = reply; grid = grid; representatives = representatives }
+-- by the start's words and the schedule's numbers
+pub meets : {s start schedule grid₀ representatives₀ grid representatives : List ℕ} {reply : Reply}
+    → coarsestOnWords s (wordsOf start) (listOf schedule) grid₀ representatives₀ ≡ record { reply = reply; grid = grid; representatives = representatives }
     → (coarsestOnBytes s start schedule grid₀ representatives₀ ≡ record { reply = reply; grid = grid; representatives = representatives })
     × CoarsestBytesPromise s start schedule grid₀ representatives₀ reply grid representatives
 unfolding coarsestOnBytes coarsestOnWords
-meets {s} {start} {schedule} {grid₀} {representatives₀} {grid} {representatives} {words} {reply} w e =
-    let f : coarsestOnBytes s start schedule grid₀ representatives₀ ≡ record { reply = reply; grid = grid; representatives = representatives } = rw w at e in
-    (f, bytes-promised s start schedule grid₀ representatives₀ reply grid representatives f)
+meets {s} {start} {schedule} {grid₀} {representatives₀} {grid} {representatives} {reply} e = (e, bytes-promised s start schedule grid₀ representatives₀ reply grid representatives e)

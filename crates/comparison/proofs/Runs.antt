@@ -1,12 +1,9 @@
 -- The run on a table from a start of it, and the reply that is read from it.
-use Prim.Native.Nat.{ℕ, _+_, _*_, _<_, _≤_}
-use native.Mathlib.Omega.{arith}
+use Prim.Native.Nat.{ℕ, _+_, _*_, _<_}
 use mathlib.Core.Path.{_≡_, sym, ap, ap₂, subst, subst⁻¹, _∙_}
 use mathlib.Core.Bool.{Bool, cond}
-use mathlib.Core.List.{List, [], _∷_, _++_}
+use mathlib.Core.List.{List, [], _∷_}
 use lib.Dec.{T}
-use lib.ListN.{length, take, length-append}
-use lib.Seq.{take-append-seam}
 use Rattle.lts.specs.System.{Rel, Lts}
 use Rattle.lts.specs.Refinement.{Run, coarsest}
 use Rattle.lts.specs.Rule.{given}
@@ -14,7 +11,7 @@ use Rattle.lts.proofs.System.{Preorder}
 use Rattle.lts.proofs.Schedule.{start-same}
 use Rattle.rows.specs.Rows.{rowWords}
 use Rattle.relation.specs.Matrix.{relationOf, matrixOf}
-use Rattle.relation.proofs.Matrices.{relation-of, formed-of, length-matrixOf}
+use Rattle.relation.proofs.Matrices.{relation-of, formed-of}
 use Rattle.transitions.specs.Table.{statesOf, tableLts, Holds}
 use Rattle.lts.specs.Union.{disjointUnion}
 use Rattle.encoding.specs.declared.Header.{Header}
@@ -40,26 +37,9 @@ module _ (from : Lts → Rel) (t start : List ℕ) (written : start ≡ matrixOf
   unfolding pairReply tableLts
   started-reply q = sym (ap (λ (r : Run). runReply r q) (start-same (tableLts t) (relationOf (statesOf t) start) (from (tableLts t)) [] same-start))
 
--- a matrix on k states, written over the first words of an array
-module _ {k n size : ℕ} (states : n ≡ k) (words : size ≡ n * rowWords n) where
-  pub size-is : size ≡ k * rowWords k
-  size-is = words ∙ ap (λ (i : ℕ). i * rowWords i) states
-
-  module _ (R : Rel) {g : List ℕ} (rest : List ℕ) (written : g ≡ matrixOf k R) where
-    long : size ≡ length g
-    long = size-is ∙ sym (ap length written ∙ length-matrixOf k R)
-
-    pub front-room : size ≤ length (g ++ rest)
-    front-room = rw length-append (omega (arith, long))
-
-    front : take size (g ++ rest) ≡ g
-    front = ap (λ (i : ℕ). take i (g ++ rest)) long ∙ take-append-seam g rest
-
-    pub front-is : take size (g ++ rest) ≡ matrixOf k R
-    front-is = front ∙ written
-
-    pub front-long : size ≡ length (take size (g ++ rest))
-    front-long = long ∙ ap length (sym front)
+-- the words of a matrix on as many states
+pub size-is : {k n size : ℕ} → n ≡ k → size ≡ n * rowWords n → size ≡ k * rowWords k
+size-is states words = words ∙ ap (λ (i : ℕ). i * rowWords i) states
 
 -- the reply read from the matrix of a run
 pub run-reply : (n : ℕ) (r : Run) (q : ℕ) {m steps : ℕ} {related : List ℕ} {b : Bool} → 0 < n → q < n → related ≡ matrixOf n (r .final .related)

@@ -1,22 +1,11 @@
 -- `coarsest_on_bytes` meets its contract, whatever the schedule's length.
 use mathlib.Core.Path.{sym, _∙_}
-use native.Mathlib.Omega.{arith}
 use lib.Seq.{length-take-le}
 use borrow.Author.Needs.{needs}
 use Rattle.coarsest_bytes.proofs.Laws.{used-same}
 use Rattle.coarsest_bytes.proofs.Promise.{meets}
 use Rattle.coarsest_bytes.proofs.coarsest_on_bytes.Statement.{statement}
 use Rattle.coarsest_bytes.proofs.coarsest_on_bytes.Tie as tie
-
-load-grid-requires : tie.Need-load-grid-requires
-load-grid-requires c κs = search needs
-
-array-share-prefix-words : tie.Need-array-share-prefix-words
-array-share-prefix-words c = omega (arith, c .load-grid .ensures .few)
-
-slice-aggregate-start-words : tie.Need-slice-aggregate-start-words
-slice-aggregate-start-words c =
-    sym (length-take-le _ _ (omega (arith, c .before .load-grid .ensures .few, c .before .load-grid .ensures .long)))
 
 used-requires : tie.Need-used-requires
 used-requires c κs = search needs
@@ -38,8 +27,7 @@ same-length-2 c = search needs
 returns : tie.Need-returns
 returns c =
     let u = c .before .before .before .before .before .before .before .before .before .used .ensures in
-    meets (c .before .before .before .before .before .before .before .before .before .before .before .load-grid .ensures .loaded)
-    (sym (used-same _ _ _ _ _ _ (u .0) (u .1)) ∙ c .before .before .before .before .coarsest-short .ensures)
+    meets (sym (used-same _ _ _ _ _ _ (u .0) (u .1)) ∙ c .before .before .before .before .coarsest-short .ensures)
 
 coarsest-long-requires : tie.Need-coarsest-long-requires
 coarsest-long-requires c κs = search needs
@@ -51,17 +39,12 @@ same-length-4 : tie.Need-same-length-4
 same-length-4 c = search needs
 
 returns-2 : tie.Need-returns-2
-returns-2 c =
-    meets (c .before .before .before .before .before .before .before .before .before .before .load-grid .ensures .loaded)
-    (c .before .before .before .before .coarsest-long .ensures)
+returns-2 c = meets (c .before .before .before .before .coarsest-long .ensures)
 
 pub coarsest-on-bytes-spec : {M : Type 1} → statement M
 coarsest-on-bytes-spec =
     tie.close
     (tie.spec
-    load-grid-requires
-    array-share-prefix-words
-    slice-aggregate-start-words
     used-requires
     slice-aggregate-coarsest-short
     coarsest-short-requires

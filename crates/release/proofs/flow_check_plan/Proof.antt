@@ -12,14 +12,17 @@ use borrow.Author.Needs.{needs}
 use Rattle.release.proofs.flow_check_plan.Statement.{statement}
 use Rattle.release.proofs.flow_check_plan.Tie as tie
 
+slice-aggregate-load-grid : tie.Need-slice-aggregate-load-grid
+slice-aggregate-load-grid c = search needs
+
 load-grid-requires : tie.Need-load-grid-requires
 load-grid-requires c κs = search needs
 
 array-share-prefix-words : tie.Need-array-share-prefix-words
-array-share-prefix-words c = omega (arith, c .load-grid .ensures .few)
+array-share-prefix-words c = omega (arith, c .before .load-grid .ensures .few)
 
 slice-aggregate-check-bytes : tie.Need-slice-aggregate-check-bytes
-slice-aggregate-check-bytes c = sym (length-take-le _ _ (omega (arith, c .before .load-grid .ensures .few, c .before .load-grid .ensures .long)))
+slice-aggregate-check-bytes c = sym (length-take-le _ _ (omega (arith, c .before .before .load-grid .ensures .few, c .before .before .load-grid .ensures .long)))
 
 check-bytes-requires : tie.Need-check-bytes-requires
 check-bytes-requires c κs = search needs
@@ -58,7 +61,7 @@ unfolding checkReply
 returns c =
     let m = c .before .before .before .before .check-bytes in
     let a = c .before .before .answer .given in
-    check-exported (c .before .before .before .before .before .before .load-grid .ensures .loaded) (m .ensures .0) (m .ensures .1)
+    check-exported (c .before .before .before .before .before .before .before .load-grid .ensures .loaded) (m .ensures .0) (m .ensures .1)
     (packs-same checkPlaces checkReply (a .1) (c .pack-refused .ensures ∙ refused-packed checkPlaces (a .0 .0)))
     (kept-same checkPlaces checkReply (a .1) (unpack-refused checkPlaces (a .0 .0)))
 
@@ -68,7 +71,7 @@ returns-2 c =
     let m = c .before .before .before .check-bytes in
     let a = c .before .answer2 .given in
     let f = check-few (m .ensures .1) (ap checkReply (a .1)) in
-    check-exported (c .before .before .before .before .before .load-grid .ensures .loaded) (m .ensures .0) (m .ensures .1)
+    check-exported (c .before .before .before .before .before .before .load-grid .ensures .loaded) (m .ensures .0) (m .ensures .1)
     (packs-same checkPlaces checkReply (a .1) (check-packed (a .0 .0) (a .0 .1 .0) (a .0 .1 .1 .0)))
     (kept-same checkPlaces checkReply (a .1) (check-kept (a .0 .0) (a .0 .1 .0) (a .0 .1 .1 .0) (omega (arith, f)) (omega (arith, f))))
 
@@ -76,6 +79,7 @@ pub flow-check-plan-spec : {M : Type 1} → statement M
 flow-check-plan-spec =
     tie.close
     (tie.spec
+    slice-aggregate-load-grid
     load-grid-requires
     array-share-prefix-words
     slice-aggregate-check-bytes

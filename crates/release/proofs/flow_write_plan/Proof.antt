@@ -12,14 +12,17 @@ use borrow.Author.Needs.{needs}
 use Rattle.release.proofs.flow_write_plan.Statement.{statement}
 use Rattle.release.proofs.flow_write_plan.Tie as tie
 
+slice-aggregate-load-grid : tie.Need-slice-aggregate-load-grid
+slice-aggregate-load-grid c = search needs
+
 load-grid-requires : tie.Need-load-grid-requires
 load-grid-requires c κs = search needs
 
 array-share-prefix-words : tie.Need-array-share-prefix-words
-array-share-prefix-words c = omega (arith, c .load-grid .ensures .few)
+array-share-prefix-words c = omega (arith, c .before .load-grid .ensures .few)
 
 slice-aggregate-write-bytes : tie.Need-slice-aggregate-write-bytes
-slice-aggregate-write-bytes c = sym (length-take-le _ _ (omega (arith, c .before .load-grid .ensures .few, c .before .load-grid .ensures .long)))
+slice-aggregate-write-bytes c = sym (length-take-le _ _ (omega (arith, c .before .before .load-grid .ensures .few, c .before .before .load-grid .ensures .long)))
 
 write-bytes-requires : tie.Need-write-bytes-requires
 write-bytes-requires c κs = search needs
@@ -45,7 +48,7 @@ unfolding writeReply
 returns c =
     let m = c .before .before .before .before .before .before .write-bytes in
     let a = c .before .before .answer .given in
-    write-exported (c .before .before .before .before .before .before .before .before .before .load-grid .ensures .loaded) (m .ensures .0) (m .ensures .1)
+    write-exported (c .before .before .before .before .before .before .before .before .before .before .load-grid .ensures .loaded) (m .ensures .0) (m .ensures .1)
     (packs-same onePlace writeReply (a .1) (c .pack-refused .ensures ∙ refused-packed onePlace (a .0 .0)))
     (kept-same onePlace writeReply (a .1) (unpack-refused onePlace (a .0 .0)))
 
@@ -57,13 +60,14 @@ unfolding writeReply
 returns-2 c =
     let m = c .before .before .before .before .before .write-bytes in
     let a = c .before .answer2 .given in
-    write-exported (c .before .before .before .before .before .before .before .before .load-grid .ensures .loaded) (m .ensures .0) (m .ensures .1)
+    write-exported (c .before .before .before .before .before .before .before .before .before .load-grid .ensures .loaded) (m .ensures .0) (m .ensures .1)
     (packs-same onePlace writeReply (a .1) (one-packed (a .0 .0))) (kept-same onePlace writeReply (a .1) (count-kept (a .0 .0)))
 
 pub flow-write-plan-spec : {M : Type 1} → statement M
 flow-write-plan-spec =
     tie.close
     (tie.spec
+    slice-aggregate-load-grid
     load-grid-requires
     array-share-prefix-words
     slice-aggregate-write-bytes
