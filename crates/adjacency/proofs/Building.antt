@@ -1,6 +1,6 @@
 -- Laws of the index of a table's first transitions. Assumes nothing.
 use mathlib.Core.Path.{_≡_, refl, sym, ap, ap₂, _∙_, subst, subst⁻¹}
-use mathlib.Core.Bool.{Bool, true, false, _||_}
+use mathlib.Core.Bool.{Bool, true, false, _||_, or-comm}
 use mathlib.Core.List.{List}
 use mathlib.Core.Logic.{inl, ⊎-elim}
 use Prim.Native.Nat.{ℕ, _+_, _-_, _*_, _/_, _%_, _^_, _≤_, _<_}
@@ -158,14 +158,8 @@ module _ {t : List ℕ} {i : ℕ} {places rows : List ℕ} (ok : Formed t) (buil
       ∙ any-cong i _ _ (λ j l. ap₂ (λ (u v : ℕ). hits u v (sourceAt t j) (actionAt t j) (targetAt t j) y)
       (sym (stays (targetsPlace (actionAt t j) (sourceAt t j)) (built .leaving j l)))
       (sym (stays (sourcesPlace (actionAt t j) (targetAt t j)) (built .entering j l)))))
-      ∙ swap (hitAt t next i y) (anyBelow i (λ j. hitAt t next j y)) ∙ sym (any-more (λ j. hitAt t next j y) i))
+      ∙ or-comm (hitAt t next i y) (anyBelow i (λ j. hitAt t next j y)) ∙ sym (any-more (λ j. hitAt t next j y) i))
       ∙ ap (λ (n : ℕ). rowOf n (λ y. anyBelow (i + 1) (λ j. hitAt t next j y))) same
-    where
-      swap : (a b : Bool) → a || b ≡ b || a
-      swap true true = refl
-      swap true false = refl
-      swap false true = refl
-      swap false false = refl
 
   next-placing : Placing (2 * actionsOf t + 1) (2 * actionsOf t + 1 + 2 * (i + 1)) next
   next-placing =

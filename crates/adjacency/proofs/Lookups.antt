@@ -78,20 +78,12 @@ module _ (rows set : List ℕ) where
 
 -- ---- the states of a set that lack a transition, word by word
 
-module _ (places rows : List ℕ) (a : ℕ) (set inside : List ℕ) where
-  abbrev pub lacksAny : Set
-  lacksAny q = not (anyBelow 256 (λ r. targetsOf places rows a q r && inRow inside r))
+-- q has no transition by a into the set
+abbrev pub lacks : List ℕ → List ℕ → ℕ → List ℕ → Set
+lacks places rows a inside q = not (anyBelow 256 (λ r. targetsOf places rows a q r && inRow inside r))
 
-  abbrev pub kept : Set
-  kept q = inRow set q && lacksAny q
-
-  pub kept-bits : (c : ℕ) {x : ℕ} → x ≡ wordOf 64 (λ i. bit (getD set c 0) i && lacksAny (64 * c + i)) → (i : ℕ) → i < 64 → bit x i ≡ kept (c * 64 + i)
-  kept-bits c e i h =
-      let same : 64 * c + i ≡ c * 64 + i = omega arith in
-      ap (λ (w : ℕ). bit w i) e ∙ bit-wordOf 64 _ i h ∙ ap₂ _&&_ (sym (inRow-at set c i h)) (ap lacksAny same)
-
-  pub kept-small : (c : ℕ) {x : ℕ} → x ≡ wordOf 64 (λ i. bit (getD set c 0) i && lacksAny (64 * c + i)) → x < 2 ^ 64
-  kept-small c e = subst (λ (w : ℕ). w < 2 ^ 64) (sym e) (wordOf-lt 64 _)
+abbrev pub kept : List ℕ → List ℕ → ℕ → List ℕ → List ℕ → Set
+kept places rows a set inside q = inRow set q && lacks places rows a inside q
 
 -- ---- against the table
 

@@ -5,18 +5,11 @@ use mathlib.Core.List.{List}
 use mathlib.Core.Logic.{_⊎_, inl, inr, ⊎-elim}
 use Prim.Native.Nat.{ℕ, _+_, _*_, _≤_, _<_}
 use native.Mathlib.Omega.{arith}
-use native.Mathlib.Decide.{ℕ-discrete}
 use lib.ListN.{length, getD, set, length-set}
 use lib.Seq.{getD-set-same, getD-set-other}
 use borrow.Author.Tests.{eq-eqb, ne-eqb}
+use Rattle.rows.proofs.Rows.{eq-or-not}
 use Rattle.adjacency.specs.Building.{claimed, Placing}
-
-same : (x y : ℕ) → (x ≡ y) ⊎ (x ≡ y → ⊥)
-same x y = go (ℕ-discrete x y)
-  where
-    go : Dec (x ≡ y) → (x ≡ y) ⊎ (x ≡ y → ⊥)
-    go (yes e) = inl e
-    go (no n) = inr n
 
 module _ (places : List ℕ) (x fresh : ℕ) where
   pub claimed-free : getD places x 0 ≡ 0 → set places x fresh ≡ claimed places x fresh
@@ -29,7 +22,7 @@ module _ (places : List ℕ) (x fresh : ℕ) where
 
   pub claim-cases : ((getD places x 0 ≡ 0) × (set places x fresh ≡ claimed places x fresh)) ⊎ ((1 ≤ getD places x 0) × (places ≡ claimed places x fresh))
   claim-cases = ⊎-elim (λ (e : getD places x 0 ≡ 0). inl (e, claimed-free e)) (λ (ne : getD places x 0 ≡ 0 → ⊥). inr (omega (arith, ne), claimed-kept ne))
-      (same (getD places x 0) 0)
+      (eq-or-not (getD places x 0) 0)
 
   pub claimed-length : length (claimed places x fresh) ≡ length places
   claimed-length = ⊎-elim (λ c. ap length (sym (c .1)) ∙ length-set places x fresh) (λ c. ap length (sym (c .1))) claim-cases
@@ -64,7 +57,7 @@ module _ (places : List ℕ) (x fresh : ℕ) where
         → (64 + getD (claimed places x fresh) y 0) * 4 + 4 ≤ n
     claimed-rooms n a b y = ⊎-elim
         (λ (e : y ≡ x). subst⁻¹ (λ (z : ℕ). (64 + getD (claimed places x fresh) z 0) * 4 + 4 ≤ n) e (claimed-room n a (b x)))
-        (λ (ne : y ≡ x → ⊥). omega (arith, claimed-other y ne, b y)) (same y x)
+        (λ (ne : y ≡ x → ⊥). omega (arith, claimed-other y ne, b y)) (eq-or-not y x)
 
 -- one row more
 module _ {low high : ℕ} {places : List ℕ} (ok : Placing low high places) (x : ℕ) (inside : x < length places) (some : 1 ≤ low) (above : low ≤ high) where
@@ -99,17 +92,17 @@ module _ {low high : ℕ} {places : List ℕ} (ok : Placing low high places) (x 
               (λ (ne : y ≡ x → ⊥). ⊎-elim (λ (z : getD places y 0 ≡ 0). inl (other y ne ∙ z))
               (λ (l : (low ≤ getD places y 0) × (getD places y 0 < high)). inr (omega (arith, other y ne, l .0), omega (arith, other y ne, l .1)))
               (ok .range y))
-              (same y x)
+              (eq-or-not y x)
 
           only : (y z : ℕ) → getD (set places x high) y 0 ≡ getD (set places x high) z 0 → 1 ≤ getD (set places x high) y 0 → y ≡ z
           only y z e l = ⊎-elim
               (λ (ey : y ≡ x). ⊎-elim (λ (ez : z ≡ x). ey ∙ sym ez)
               (λ (nz : z ≡ x → ⊥).
               let v : getD (set places x high) y 0 ≡ high = ap (λ (j : ℕ). getD (set places x high) j 0) ey ∙ at in
-              absurd (omega (arith, v, e, other z nz, low-high z))) (same z x))
+              absurd (omega (arith, v, e, other z nz, low-high z))) (eq-or-not z x))
               (λ (ny : y ≡ x → ⊥). ⊎-elim
               (λ (ez : z ≡ x).
               let v : getD (set places x high) z 0 ≡ high = ap (λ (j : ℕ). getD (set places x high) j 0) ez ∙ at in
               absurd (omega (arith, v, e, other y ny, low-high y)))
-              (λ (nz : z ≡ x → ⊥). ok .only y z (sym (other y ny) ∙ e ∙ other z nz) (omega (arith, other y ny, l))) (same z x))
-              (same y x)
+              (λ (nz : z ≡ x → ⊥). ok .only y z (sym (other y ny) ∙ e ∙ other z nz) (omega (arith, other y ny, l))) (eq-or-not z x))
+              (eq-or-not y x)

@@ -1,28 +1,24 @@
 -- Laws of blocks, of their representatives and of the pending ones. Assumes nothing.
-use mathlib.Core.Path.{_≡_, refl, sym, ap, ap₂, _∙_}
-use mathlib.Core.Bool.{Bool, true, false, cond, _&&_, _||_, xor, and-true, and-false, or-false}
+use mathlib.Core.Path.{_≡_, sym, ap, ap₂, _∙_}
+use mathlib.Core.Bool.{Bool, true, false, cond, _&&_, _||_, xor, and-false}
 use mathlib.Core.List.{List, _++_, append-nil}
 use mathlib.Core.Logic.{⊎-elim}
-use Prim.Native.Nat.{ℕ, _+_, _*_, _/_, _%_, _≤_, _<_}
-use native.Mathlib.Nat.{eq-or-lt-of-le}
+use Prim.Native.Nat.{ℕ, _+_, _*_, _%_, _≤_, _<_}
 use native.Mathlib.Omega.{arith}
-use lib.Dec.{eqb, ltb}
+use lib.Dec.{eqb}
 use lib.ListN.{length, getD, drop, drop-of-length-le, replicate}
-use borrow.Author.Tests.{lt-ltb, le-ltb, eq-eqb, ne-eqb}
 use Rattle.lts.specs.Bounded.{anyBelow, sumBelow, countBelow, listBelow, passing, lowest}
 use Rattle.lts.specs.System.{Set, Rel, Lts, anyState}
 use Rattle.lts.specs.Refinement.{Relations, block, representative, isRepresentative, pending, chosen, blockCount, representatives}
 use Rattle.lts.proofs.Count.{passing-shorter}
-use Rattle.rows.specs.Rows.{bit, wordOf, wordAt, inRow, rowOf, rowWords, statesBelow}
-use Rattle.sets.specs.Sets.{window}
-use Rattle.sets.specs.Parts.{Parted, Owned}
+use Rattle.rows.specs.Rows.{inRow, rowOf, rowWords, statesBelow}
 use Rattle.relation.specs.Matrix.{relationOf}
-use Rattle.lts.proofs.Below.{lt-or-ge, either, and-fst, and-snd, any-no, any-cong, any-shorter, sum-cong, length-listBelow, listBelow-cong, lowest-cong, lowest-agree, lowest-test}
-use Rattle.rows.proofs.Rows.{rowOf-cong, inRow-of, states-in, states-out}
+use Rattle.lts.proofs.Below.{lt-or-ge, either, any-no, any-cong, any-shorter, sum-cong, listBelow-cong, lowest-cong, lowest-agree, lowest-test}
+use Rattle.rows.proofs.Rows.{states-in, states-out, picked-none, picked-in, picked-out, picked-all}
 use Rattle.sets.proofs.Lists.{set-in}
 use Rattle.relation.proofs.Matrices.{inRow-drop}
 use Rattle.lts.proofs.Lists.{passing-same}
-use Rattle.partition.specs.Pending.{pendingIn, Ordered}
+use Rattle.partition.specs.Pending.{pendingIn}
 
 -- whether the sets of x differ in two lists
 abbrev pub differs : Rel → Rel → Set
@@ -31,49 +27,17 @@ differs A B x = anyBelow 256 (λ q. xor (A x q) (B x q))
 pub differs-at : (A B : Rel) (x : ℕ) {u v : List ℕ} → u ≡ rowOf 4 (A x) → v ≡ rowOf 4 (B x) → anyBelow 256 (λ q. xor (inRow u q) (inRow v q)) ≡ differs A B x
 differs-at A B x e f = any-cong 256 _ _ (λ q h. ap₂ xor (set-in (A x) e q h) (set-in (B x) f q h))
 
--- two tests for one value
-pub cond-or : (a b x y : Bool) → cond a x (cond b x y) ≡ cond (a || b) x y
-cond-or true b x y = refl
-cond-or false b x y = refl
-
--- the states of a word
-pub window-in : (c word q : ℕ) → q / 64 ≡ c → window c word q ≡ bit word (q % 64)
-unfolding window
-window-in c word q e = ap (λ (b : Bool). cond b (bit word (q % 64)) false) (eq-eqb (q / 64) c e)
-
-pub window-out : (c word q : ℕ) → (q / 64 ≡ c → ⊥) → window c word q ≡ false
-unfolding window
-window-out c word q ne = ap (λ (b : Bool). cond b (bit word (q % 64)) false) (ne-eqb (q / 64) c ne)
-
 -- ---- a row that states are put into one by one, ascending: after q states it holds those of S below q
 
-states-more : (S : ℕ → Bool) (q x : ℕ) → (eqb x q && S q) || statesBelow q S x ≡ statesBelow (q + 1) S x
-states-more S q x =
-    ⊎-elim
-    (λ (h : x < q). rw (ne-eqb x q (λ e. omega arith), lt-ltb x q h, lt-ltb x (q + 1) (omega arith)))
-    (λ (h : q ≤ x). ⊎-elim
-    (λ (e : q ≡ x). rw (eq-eqb x q (sym e), le-ltb x q h, lt-ltb x (q + 1) (omega arith)) (or-false (S q) ∙ ap S e))
-    (λ (l : q < x). rw (ne-eqb x q (λ e. omega arith), le-ltb x q h, le-ltb x (q + 1) (omega arith)))
-    (eq-or-lt-of-le h))
-    (lt-or-ge x q)
+pub states-none : (S : Set) → replicate {A = ℕ} 4 0 ≡ rowOf 4 (statesBelow 0 S)
+states-none S = picked-none S ∙ picked-all S 0
 
-zeros : replicate {A = ℕ} 4 0 ≡ rowOf 4 (λ q. false)
-unfolding listBelow wordAt wordOf
-zeros = refl
+pub states-skip : (S : Set) (q : ℕ) → S q ≡ false → rowOf 4 (statesBelow q S) ≡ rowOf 4 (statesBelow (q + 1) S)
+states-skip S q e = picked-out S q (sym (picked-all S q)) e ∙ picked-all S (q + 1)
 
-pub states-none : (S : ℕ → Bool) → replicate {A = ℕ} 4 0 ≡ rowOf 4 (statesBelow 0 S)
-states-none S = zeros ∙ rowOf-cong 4 (λ q. false) (statesBelow 0 S) (λ q h. sym (ap (λ (b : Bool). b && S q) (le-ltb q 0 (omega arith))))
-
-pub states-skip : (k : ℕ) (S : ℕ → Bool) (q : ℕ) → S q ≡ false → rowOf k (statesBelow q S) ≡ rowOf k (statesBelow (q + 1) S)
-states-skip k S q e = rowOf-cong k _ _ (λ x h. sym (ap (λ (b : Bool). b || statesBelow q S x) (ap (λ (b : Bool). eqb x q && b) e ∙ and-false (eqb x q))) ∙ states-more S q x)
-
-pub states-take : (k : ℕ) (S : ℕ → Bool) (q : ℕ) (row : List ℕ) → row ≡ rowOf k (statesBelow q S) → S q ≡ true
-    → rowOf (length row) (λ x. eqb x q || inRow row x) ≡ rowOf k (statesBelow (q + 1) S)
-states-take k S q row now e =
-    let long : length row ≡ k = ap length now ∙ length-listBelow k _ in
-    ap (λ (m : ℕ). rowOf m (λ x. eqb x q || inRow row x)) long
-    ∙ rowOf-cong k _ _ (λ x h.
-    ap₂ _||_ (sym (ap (λ (b : Bool). eqb x q && b) e ∙ and-true (eqb x q))) (ap (λ (l : List ℕ). inRow l x) now ∙ inRow-of k (statesBelow q S) x h) ∙ states-more S q x)
+pub states-take : (S : Set) (q : ℕ) (row : List ℕ) → row ≡ rowOf 4 (statesBelow q S) → S q ≡ true
+    → rowOf (length row) (λ x. eqb x q || inRow row x) ≡ rowOf 4 (statesBelow (q + 1) S)
+states-take S q row now e = picked-in S q (now ∙ sym (picked-all S q)) e ∙ picked-all S (q + 1)
 
 -- from a on no state of S
 pub states-same : (S : ℕ → Bool) (a b : ℕ) → a ≤ b → ((x : ℕ) → a ≤ x → x < b → S x ≡ false) → (x : ℕ) → statesBelow a S x ≡ statesBelow b S x
@@ -144,11 +108,6 @@ module _ (L : Lts) (s : Relations) (n : ℕ) (K W P : Rel) (small : n ≤ 256) (
   pending-off p l h =
       ap (λ (b : Bool). eqb (lowest 256 (P p)) p && b) (sym (any-no 256 _ (λ q hq. same-off p q h hq (λ b. omega (arith, b .0, l))))) ∙ and-false (eqb (lowest 256 (P p)) p)
 
-  pub pending-at : (p : ℕ) → p < 256 → pendingIn 256 K W P p ≡ ltb p n && pending L s p
-  pending-at p h =
-      ⊎-elim (λ (l : p < n). pending-in-is p l ∙ sym (ap (λ (b : Bool). b && pending L s p) (lt-ltb p n l)))
-      (λ (l : n ≤ p). pending-off p l h ∙ sym (ap (λ (b : Bool). b && pending L s p) (le-ltb p n l))) (lt-or-ge p n)
-
   pub passing-pending : passing 256 (pendingIn 256 K W P) ≡ passing (L .states) (pending L s)
   passing-pending =
       passing-shorter n 256 (pendingIn 256 K W P) small (λ i l h. pending-off i l h) ∙ passing-same n _ _ pending-in-is ∙ ap (λ (k : ℕ). passing k (pending L s)) (sym size)
@@ -167,26 +126,3 @@ module _ (L : Lts) (s : Relations) (n : ℕ) (K W P : Rel) (small : n ≤ 256) (
     pub chosen-is : (e : ℕ) → getD (passing 256 (inRow row)) (e % length (passing 256 (inRow row))) 0 ≡ chosen L e s
     unfolding chosen
     chosen-is e = ap (λ (l : List ℕ). getD l (e % length l) 0) listed
-
--- ---- the blocks of a preorder
-
-module _ (n : ℕ) (K P : Rel) (ok : Ordered n K) (blocks : (p q : ℕ) → p < 256 → q < 256 → P p q ≡ block K p q) where
-  -- any set of which a state outside is alone
-  pub blocks-parted : (S : Set) → ((g h : ℕ) → g < 256 → h < 256 → S g ≡ false → P g h ≡ true → h ≡ g) → Parted P S
-  unfolding block
-  blocks-parted S single = record {
-    sym = λ g h hg hh e. let k = both g h hg hh e in blocks h g hh hg ∙ ap₂ _&&_ (k .1) (k .0);
-    trans = λ g h k hg hh hk e d.
-        let a = both g h hg hh e in
-        let b = both h k hh hk d in
-        blocks g k hg hk ∙ ap₂ _&&_ (ok .trans g h k hg hh hk (a .0) (b .0)) (ok .trans k h g hk hh hg (b .1) (a .1));
-    single = single;
-  }
-    where
-      both : (g h : ℕ) → g < 256 → h < 256 → P g h ≡ true → (K g h ≡ true) × (K h g ≡ true)
-      both g h hg hh e = let k = sym (blocks g h hg hh) ∙ e in (and-fst (K g h) (K h g) k, and-snd (K g h) (K h g) k)
-
-  -- a set of states below n
-  pub blocks-owned : (S : Set) → ((g : ℕ) → g < 256 → S g ≡ true → g < n) → Owned P S
-  unfolding block
-  blocks-owned S inside g h e = let l = inside g h e in blocks g g h h ∙ ap₂ _&&_ (ok .loop g l) (ok .loop g l)

@@ -1,21 +1,22 @@
 -- The actions of one refinement step, on lists of sets.
 use Prim.Native.Nat.{ℕ, zero, suc, _+_, _-_, _^_, _≤_, _<_}
-use native.Mathlib.Nat.{le-refl, le-trans, le-step, eq-or-lt-of-le}
+use native.Mathlib.Nat.{le-refl, eq-or-lt-of-le}
 use native.Mathlib.Numerals.{add-one}
 use native.Mathlib.Omega.{arith}
 use mathlib.Core.Path.{_≡_, refl, sym, _∙_, ap, ap₂, subst, fun-ext}
 use mathlib.Core.Bool.{Bool, true, false, cond, not, _&&_, _||_, and-true, and-false}
-use mathlib.Core.Logic.{_⊎_, inl, inr, ⊎-elim}
+use mathlib.Core.Logic.{inl, inr, ⊎-elim}
 use mathlib.Core.List.{List}
 use lib.Bits.{bitAnd}
 use lib.Count.{trailingZeros}
-use lib.Dec.{T}
+use lib.Dec.{T, eqb}
 use lib.ListN.{length, getD}
+use borrow.Author.Tests.{eq-eqb, eqb-true}
 use Rattle.lts.specs.Bounded.{anyBelow}
 use Rattle.lts.specs.System.{Set, Rel, Lts, into}
 use Rattle.lts.specs.Refinement.{block, remove, refine, eachAction}
 use Rattle.lts.proofs.Refine.{Blocks}
-use Rattle.lts.proofs.Below.{any-no, any-yes, any-shorter, and-fst, clash, neither, lt-or-ge}
+use Rattle.lts.proofs.Below.{any-no, any-shorter, and-fst, clash, neither, lt-or-ge}
 use Rattle.lts.proofs.System.{into-to}
 use Rattle.rows.specs.Rows.{inRow, rowOf}
 use Rattle.sets.specs.Sets.{setAt, setsOf}
@@ -26,7 +27,7 @@ use Rattle.transitions.specs.Table.{actionsOf, tableLts, Formed}
 use Rattle.transitions.proofs.Entries.{table-formed}
 use Rattle.splitting.specs.Split.{splitRelated, splitBlocks, pruneRelated, refinedRelated, Acted}
 use Rattle.splitting.proofs.Laws.{refined-cong, split-blocks-cong, refined-is, refined-blocks-is, SameSet, SameRel}
-use Rattle.splitting.proofs.Touched.{related-unsplit, blocks-unsplit}
+use Rattle.splitting.proofs.Touched.{related-unsplit, blocks-unsplit, owned-split}
 use Rattle.refinement.specs.Engine.{Refined, actionsTo, acted, removedBy, hitsBy, Idle, Fixed, Owning, Untouched, Done}
 
 -- ---- an action that changes nothing
@@ -192,19 +193,6 @@ idle-acted Rem Hits related blocks touched long length-blocks words words-blocks
   blocks-same = λ _ _ _ _ _. refl;
 }
 
--- what a negated test says
-pub not-taken : (b : Bool) → not b ≡ true → b ≡ false
-not-taken false e = refl
-not-taken true e = sym e
-
--- no number passes a test
-pub any-off : (f : Set) → anyBelow 256 f ≡ false → (q : ℕ) → q < 256 → f q ≡ false
-any-off f e q h = go (f q) refl
-  where
-    go : (x : Bool) → f q ≡ x → x ≡ false
-    go false r = refl
-    go true r = absurd (clash (sym (any-yes 256 f q h r)) e)
-
 -- a hit is a state of the table
 pub hits-owned : {t : List ℕ} → Formed t → (a : ℕ) (B : Set) (blocks : List ℕ) {hits : List ℕ} → Owning t blocks → hits ≡ rowOf 4 (into (tableLts t) a B) → Owned (setAt blocks) (inRow hits)
 unfolding tableLts
@@ -214,14 +202,10 @@ hits-owned {t} ok a B blocks own is g h e =
 
 -- each state stays in its own block
 pub owning-split : {t : List ℕ} (blocks : List ℕ) {blocks′ : List ℕ} (Rem : Set) → Formed t → Owning t blocks → blocks′ ≡ setsOf 256 (splitBlocks Rem (setAt blocks)) → Owning t blocks′
-unfolding splitBlocks
 owning-split blocks Rem ok own is g h =
     let u : g < 256 = omega (arith, h, ok .states) in
-    sets-in 256 _ is g g u u ∙ ap₂ _&&_ (own g h) (stays (Rem g))
-  where
-    stays : (r : Bool) → cond r r (not r) ≡ true
-    stays true = refl
-    stays false = refl
+    sets-in 256 _ is g g u u
+    ∙ owned-split (setAt blocks) (λ x. eqb x g) Rem (λ x _ e. ap (λ (y : ℕ). setAt blocks y y) (eqb-true x g e) ∙ own g h) g u (eq-eqb g g refl)
 
 split-finer : (Rem : Set) (P : Rel) (g h : ℕ) → splitBlocks Rem P g h ≡ true → P g h ≡ true
 unfolding splitBlocks
@@ -273,9 +257,6 @@ module _ (related blocks : List ℕ) {t places rows : List ℕ} {actions : ℕ} 
 
       pub next-most : j + 1 ≤ actionsOf t
       next-most = ⊎-elim (λ (l : j < actionsOf t). omega (arith, l)) (λ (l : actionsOf t ≤ j). absurd (clash (next .member) (fixed .no-more j l (next .below)))) (lt-or-ge j (actionsOf t))
-
-      pub next-low : j < 64
-      next-low = next .below
 
       skipped : (related′ ≡ setsOf 256 (acted Rem Hits j related blocks .related)) × (blocks′ ≡ setsOf 256 (acted Rem Hits j related blocks .blocks))
       skipped = acted-skips Rem Hits i j _ {Q = setAt blocks} (next .above) (now .related-is) (now .blocks-is)

@@ -4,15 +4,15 @@ use native.Mathlib.Nat.{not-suc-le-zero}
 use native.Mathlib.Numerals.{add-one}
 use native.Mathlib.Omega.{arith}
 use mathlib.Core.Path.{_≡_, refl, sym, ap, ap₂, _∙_, subst}
-use mathlib.Core.Bool.{Bool, true, false, cond, not, _&&_, _||_, and-true, true≢false}
-use mathlib.Core.Logic.{_⊎_, ⊎-elim}
+use mathlib.Core.Bool.{Bool, true, false, cond, not, _&&_, _||_, and-true, and-assoc, true≢false}
+use mathlib.Core.Logic.{⊎-elim}
 use mathlib.Core.List.{List}
 use lib.Dec.{T, eqb, ltb, eqb→eq}
 use lib.ListN.{length, getD}
 use borrow.Author.Tests.{eq-eqb, ne-eqb, eqb-true}
 use Rattle.lts.specs.Bounded.{_⇒_, allBelow, restrict}
 use Rattle.lts.specs.System.{Set, Rel, Lts, allActions, into}
-use Rattle.lts.specs.Refinement.{initial, block}
+use Rattle.lts.specs.Refinement.{initial}
 use Rattle.lts.proofs.Bounded.{and-iff, imp-iff, all-iff, test-ext, restrict-iff}
 use Rattle.lts.proofs.Below.{all-cong, T-true, either}
 use Rattle.lts.proofs.System.{Preorder, into-to, into-from}
@@ -127,11 +127,7 @@ module _ {t places rows : List ℕ} (index : Index t places rows) (start : Rel) 
   initial-related {first} e d = d ∙ sets-cong 256 _ _ (λ p q h l.
       ap₂ _&&_ (sets-in 256 _ e p q h l) (all-cong (countOf t) _ _ (λ i u. ap (λ (b : Bool). not (eqb (sourceAt t i) p) || b)
       (index .enabled (actionAt t i) q (index .formed .named i u) (index .formed .action i u) l)) ∙ has-actions (index .formed) p q)
-      ∙ regroup (ltb p n && ltb q n) (start p q) (answersAll L p q))
-    where
-      regroup : (a b c : Bool) → (a && b) && c ≡ a && (b && c)
-      regroup true b c = refl
-      regroup false b c = refl
+      ∙ and-assoc (ltb p n && ltb q n) (start p q) (answersAll L p q))
 
   -- V at the beginning
   pub initial-viewed : {all none viewed : List ℕ} → all ≡ rowOf 4 (λ q. ltb q n) → none ≡ setsOf 256 (λ p q. false)

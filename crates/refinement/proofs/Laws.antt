@@ -1,23 +1,37 @@
 -- The engine's run: what the lists hold is what the run of the refinement rule has reached.
 use Prim.Native.Nat.{ℕ, suc, _*_, _%_, _≤_, _<_}
 use native.Mathlib.Nat.{mod-lt}
-use mathlib.Core.Path.{_≡_, sym, _∙_, ap, ap₂, subst, fun-ext}
-use mathlib.Core.Bool.{Bool, true, _&&_}
+use mathlib.Core.Path.{_≡_, refl, sym, _∙_, ap, ap₂, subst, fun-ext}
+use mathlib.Core.Bool.{Bool, true, false}
 use mathlib.Core.List.{List}
 use native.Mathlib.Omega.{arith}
-use lib.Dec.{T}
+use lib.Dec.{T, ltb}
 use lib.ListN.{length, getD}
+use borrow.Author.Tests.{lt-ltb, ltb-true}
 use Rattle.lts.specs.Bounded.{passing, restrict}
 use Rattle.lts.specs.System.{Rel, Lts, WellFormed, anyState}
 use Rattle.lts.specs.Refinement.{Relations, initial, block, pending, stepOf, chosen, step, coarsest}
-use Rattle.lts.proofs.Bounded.{test-ext, restrict-iff, restrict-at, restrict-same}
+use Rattle.lts.proofs.Bounded.{test-ext, restrict-iff, restrict-same}
 use Rattle.lts.proofs.Count.{passing-at, passing-some}
 use Rattle.lts.proofs.System.{Preorder, into-to, into-from}
 use Rattle.lts.proofs.Step.{Inv, block-iff, during, step-inv, viewed-shrinks}
 use Rattle.lts.proofs.Run.{Reached, begin, next, reached-inv, reached-below, reached-end}
+use Rattle.rows.specs.Rows.{inRow, rowOf}
 use Rattle.sets.specs.Sets.{setAt, setsOf}
-use Rattle.sets.proofs.Lists.{sets-in}
+use Rattle.sets.proofs.Lists.{set-in, sets-in}
 use Rattle.refinement.specs.Engine.{heldBy, relationsOf, Steady, State}
+
+pub untrue : (x : Bool) → (T x → ⊥) → x ≡ false
+untrue false f = refl
+untrue true f = absurd (f tt)
+
+-- a set of all states
+module _ (n : ℕ) {all : List ℕ} (all-is : all ≡ rowOf 4 (λ q. ltb q n)) where
+  pub all-in : (q : ℕ) → q < 256 → q < n → inRow all q ≡ true
+  all-in q h l = set-in _ all-is q h ∙ lt-ltb q n l
+
+  pub all-below : (q : ℕ) → q < 256 → inRow all q ≡ true → q < n
+  all-below q h e = ltb-true q n (sym (set-in _ all-is q h) ∙ e)
 
 -- a relation that holds pairs below n only is its restriction
 abbrev pub Inside : ℕ → Rel → Type 0

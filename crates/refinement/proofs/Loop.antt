@@ -4,16 +4,15 @@ use native.Mathlib.Nat.{mul-le-mul}
 use native.Mathlib.Numerals.{add-one}
 use native.Mathlib.Omega.{arith}
 use mathlib.Core.Path.{_≡_, refl, sym, _∙_, ap, ap₂, subst}
-use mathlib.Core.Bool.{Bool, true, false, _&&_}
+use mathlib.Core.Bool.{true, false, _&&_}
 use mathlib.Core.Logic.{⊎-elim}
 use mathlib.Core.List.{List}
 use lib.Dec.{T, ltb}
 use lib.ListN.{length, getD}
-use borrow.Author.Tests.{lt-ltb, ltb-true}
 use Rattle.lts.specs.Bounded.{anyBelow, passing}
 use Rattle.lts.specs.System.{Rel, Lts, WellFormed, anyState}
 use Rattle.lts.specs.Refinement as Refinement
-use Rattle.lts.specs.Refinement.{Relations, Run, initial, block, eachAction, stepOf, chosen, coarsest}
+use Rattle.lts.specs.Refinement.{Relations, Run, initial, block, eachAction, chosen, coarsest}
 use Rattle.lts.proofs.Below.{T-true, clash, lt-or-ge}
 use Rattle.lts.proofs.System.{Preorder}
 use Rattle.lts.proofs.Step.{block-iff}
@@ -23,13 +22,13 @@ use Rattle.relation.specs.Matrix.{relationOf, matrixOf}
 use Rattle.relation.proofs.Matrices.{matrixOf-cong}
 use Rattle.sets.specs.Sets.{setAt, setsOf}
 use Rattle.sets.specs.Parts.{Parted, Owned}
-use Rattle.sets.proofs.Lists.{set-in, sets-in, sets-cong, sets-long}
+use Rattle.sets.proofs.Lists.{sets-in, sets-cong, sets-long}
 use Rattle.transitions.specs.Table.{statesOf, tableLts, Formed}
 use Rattle.transitions.proofs.Entries.{table-formed}
 use Rattle.adjacency.specs.Adjacency.{Index}
 use Rattle.partition.proofs.Laws as partition
-use Rattle.refinement.specs.Engine.{heldBy, relationsOf, Steady, Before, Stepping, Made, State, Start}
-use Rattle.refinement.proofs.Laws.{held-inside, state-begin, state-steady, state-next, state-end, state-below, chosen-below}
+use Rattle.refinement.specs.Engine.{relationsOf, Steady, Stepping, Made, State, Start}
+use Rattle.refinement.proofs.Laws.{untrue, all-in, all-below, held-inside, state-begin, state-steady, state-next, state-end, state-below, chosen-below}
 use Rattle.refinement.proofs.Pending.{pendingAt}
 
 -- where the loop stands at its test: what was reached, the pending representatives, and the states that share a block
@@ -75,10 +74,6 @@ module _ {t start : List ℕ} (ok : Formed t) (st : Start (statesOf t) start) wh
   -- ---- K and the blocks at the end, as matrices
 
   -- they have no pair outside the states
-  untrue : (x : Bool) → (T x → ⊥) → x ≡ false
-  untrue false f = refl
-  untrue true f = absurd (f tt)
-
   final-below : (schedule : List ℕ) (p q : ℕ) → T (coarsest L from schedule .final .related p q) → q < n
   unfolding tableLts
   final-below schedule p q e = coarsest-is L wf from pre schedule .simulates .states e .1
@@ -161,11 +156,8 @@ module _ {t start : List ℕ} (ok : Formed t) (st : Start (statesOf t) start) wh
     size = refl
 
     module _ {all : List ℕ} (all-is : all ≡ rowOf 4 (λ q. ltb q n)) where
-      below : (q : ℕ) → q < 256 → inRow all q ≡ true → q < n
-      below q h e = ltb-true q n (sym (set-in _ all-is q h) ∙ e)
-
       within : (q : ℕ) → q < n → inRow all q ≡ true
-      within q h = set-in _ all-is q (omega (arith, h, ok .states)) ∙ lt-ltb q n h
+      within q h = all-in n all-is q (omega (arith, h, ok .states)) h
 
       -- the blocks are blocks, and a state outside the set of all states has none
       pub parted-first : Parted (setAt blocks) (inRow all)
@@ -181,7 +173,7 @@ module _ {t start : List ℕ} (ok : Formed t) (st : Start (statesOf t) start) wh
       }
 
       pub owned-first : Owned (setAt blocks) (inRow all)
-      owned-first g h e = let r = reflexive g (below g h e) in same-blocks g g h h ∙ T-true _ (block-iff (s .related) g g .1 (r, r))
+      owned-first g h e = let r = reflexive g (all-below n all-is g h e) in same-blocks g g h h ∙ T-true _ (block-iff (s .related) g g .1 (r, r))
 
       -- the pending set without a state is right outside the set of all states
       pub pending-first : (none : List ℕ) → ((q : ℕ) → inRow none q ≡ false) → (p : ℕ) → p < 256 → inRow all p ≡ false → inRow none p ≡ pendingAt related viewed blocks p

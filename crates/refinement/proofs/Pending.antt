@@ -1,15 +1,12 @@
 -- The set of the pending representatives and the set of the states that share a block, from step to step. Assumes nothing.
-use Prim.Native.Nat.{ℕ, _≤_, _<_}
-use native.Mathlib.Omega.{arith}
+use Prim.Native.Nat.{ℕ, _<_}
 use mathlib.Core.Path.{_≡_, refl, sym, ap, ap₂, _∙_}
 use mathlib.Core.Bool.{Bool, true, false, not, _&&_, xor, true≢false}
 use mathlib.Core.List.{List}
 use lib.Dec.{eqb}
-use lib.ListN.{length}
-use Rattle.lts.specs.Bounded.{anyBelow}
 use Rattle.lts.specs.System.{Set, Rel}
-use Rattle.lts.proofs.Below.{any-cong, any-yes, clash, lowest-agree, length-listBelow}
-use Rattle.rows.specs.Rows.{inRow, rowOf, wordAt}
+use Rattle.lts.proofs.Below.{any-cong, lowest-agree}
+use Rattle.rows.specs.Rows.{inRow, rowOf}
 use Rattle.sets.specs.Sets.{setAt}
 use Rattle.sets.specs.Parts.{Parted}
 use Rattle.sets.proofs.Lists.{set-in}
@@ -48,18 +45,3 @@ parted-minus {P} shared alone parts singles e = record {
     go g h hg hh p false s a d o = parts .single g h hg hh s p
     go g h hg hh p true s true d o = singles g h hg hh d p
     go g h hg hh p true s false d o = absurd (true≢false o)
-
--- two sets of which no number is in one alone
-pub xor-none : (A B : Set) → anyBelow 256 (λ q. xor (A q) (B q)) ≡ false → (q : ℕ) → q < 256 → A q ≡ B q
-unfolding xor
-xor-none A B e q h = go (A q) (B q) refl refl
-  where
-    go : (a b : Bool) → A q ≡ a → B q ≡ b → a ≡ b
-    go true true r s = refl
-    go false false r s = refl
-    go true false r s = absurd (clash (sym (any-yes 256 (λ q. xor (A q) (B q)) q h (ap₂ xor r s))) e)
-    go false true r s = absurd (clash (sym (any-yes 256 (λ q. xor (A q) (B q)) q h (ap₂ xor r s))) e)
-
--- a set has four words
-pub set-of-long : (S : Set) {a : List ℕ} → a ≡ rowOf 4 S → length a ≡ 4
-set-of-long S e = ap length e ∙ length-listBelow 4 (wordAt S)

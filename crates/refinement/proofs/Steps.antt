@@ -5,27 +5,24 @@ use mathlib.Core.Path.{_≡_, refl, sym, _∙_, ap, ap₂, subst, fun-ext}
 use mathlib.Core.Bool.{Bool, true, false, cond, not, _&&_, _||_, and-true, and-false, true≢false}
 use mathlib.Core.Logic.{_⊎_, inl, inr, ⊎-elim}
 use mathlib.Core.List.{List}
-use lib.Dec.{T, ltb}
+use lib.Dec.{T}
 use lib.ListN.{getD}
-use borrow.Author.Tests.{lt-ltb, le-ltb, ltb-true}
-use Rattle.lts.specs.Bounded.{anyBelow, restrict}
-use Rattle.lts.specs.System.{Set, Rel, Lts, anyState, into}
-use Rattle.lts.specs.Refinement.{Relations, block, remove, refine, eachAction, stepOf}
-use Rattle.lts.proofs.Bounded.{test-ext, restrict-iff}
-use Rattle.lts.proofs.Below.{T-true, any-cong, any-no, any-yes, any-some, and-fst, and-snd, bool-iff, clash, neither, lt-or-ge}
+use Rattle.lts.specs.Bounded.{anyBelow}
+use Rattle.lts.specs.System.{Set, Lts, anyState, into}
+use Rattle.lts.specs.Refinement.{Relations, block, remove, eachAction, stepOf}
+use Rattle.lts.proofs.Below.{T-true, any-cong, any-no, and-snd, neither, lt-or-ge}
 use Rattle.lts.proofs.Step.{block-iff}
 use Rattle.rows.specs.Rows.{bit, inRow, rowOf}
 use Rattle.rows.proofs.Bits.{bit-wordOf, wordOf-lt}
 use Rattle.sets.specs.Sets.{setAt, setsOf}
-use Rattle.sets.specs.Parts.{Parted, Owned}
-use Rattle.sets.proofs.Lists.{set-in, sets-in, sets-cong}
+use Rattle.sets.specs.Parts.{Parted}
+use Rattle.sets.proofs.Lists.{set-in, any-off, sets-in, sets-cong}
 use Rattle.transitions.specs.Table.{statesOf, actionsOf, tableLts, Formed}
 use Rattle.transitions.proofs.Entries.{table-formed}
-use Rattle.adjacency.specs.Adjacency.{Index, actionsEntering}
-use Rattle.splitting.specs.Split.{splitBlocks, refinedRelated}
+use Rattle.adjacency.specs.Adjacency.{actionsEntering}
 use Rattle.splitting.proofs.Laws.{hit-free, refined-cong, split-blocks-cong, SameRel}
-use Rattle.refinement.specs.Engine.{heldBy, relationsOf, stepped, Refined, actionsTo, acted, removedBy, hitsBy, Idle, Turning, Fixed, Owning, Untouched, Done, Before, Steady, Stepping, Made}
-use Rattle.refinement.proofs.Laws.{held-inside}
+use Rattle.refinement.specs.Engine.{relationsOf, Refined, actionsTo, acted, removedBy, hitsBy, Idle, Turning, Fixed, Owning, Done, Stepping, Made}
+use Rattle.refinement.proofs.Laws.{untrue, all-in, all-below, held-inside}
 use Rattle.refinement.proofs.Actions.{acted-related, acted-blocks}
 
 -- a transition goes into sets that agree on the states alike
@@ -93,11 +90,8 @@ module _ {t places rows all : List ℕ} {b : ℕ} {related viewed blocks shared 
   step-owning g h = same-blocks g g (omega (arith, h, small)) (omega (arith, h, small)) ∙ T-true _ (block-iff (s .related) g g .1 (reflexive g h, reflexive g h))
 
   -- a set of all states
-  all-in : (q : ℕ) → q < n → inRow all q ≡ true
-  all-in q h = set-in _ (at .all-is) q (omega (arith, h, small)) ∙ lt-ltb q n h
-
-  all-below : (q : ℕ) → q < 256 → inRow all q ≡ true → q < n
-  all-below q h e = ltb-true q n (sym (set-in _ (at .all-is) q h) ∙ e)
+  within : (q : ℕ) → q < n → inRow all q ≡ true
+  within q h = all-in n (at .all-is) q (omega (arith, h, small)) h
 
   module _ {members inside outside : List ℕ} {actions : ℕ} {whole : Bool} (turn : Turning rows all shared b related viewed blocks members inside outside actions whole) where
     in-members : (q : ℕ) → q < 256 → inRow members q ≡ B q
@@ -122,7 +116,7 @@ module _ {t places rows all : List ℕ} {b : ℕ} {related viewed blocks shared 
     covers : whole ≡ true → (q : ℕ) → q < n → inRow inside q || inRow outside q ≡ true
     covers e q h =
         let u : q < 256 = omega (arith, h, small) in
-        ap₂ _||_ (set-in _ (turn .inside-is) q u) (set-in _ (turn .outside-is) q u) ∙ either (setAt viewed b q) (setAt related b q) (turn .whole-is e q u ∙ all-in q h)
+        ap₂ _||_ (set-in _ (turn .inside-is) q u) (set-in _ (turn .outside-is) q u) ∙ either (setAt viewed b q) (setAt related b q) (turn .whole-is e q u ∙ within q h)
 
     -- no transition by an action goes into a set, where there is none, or none into its members
     no-into : (a : ℕ) (X : Set) → ((p q : ℕ) → p < 256 → q < n → X q ≡ true → L .transition p a q ≡ false) → (p : ℕ) → p < 256 → into L a X p ≡ false
@@ -133,21 +127,14 @@ module _ {t places rows all : List ℕ} {b : ℕ} {related viewed blocks shared 
         go {r} true f = and-true r ∙ f refl
         go {r} false f = and-false r
 
-    off : (k : ℕ) (f : Set) → anyBelow k f ≡ false → (i : ℕ) → i < k → f i ≡ false
-    off k f e i h = go (f i) refl
-      where
-        go : (x : Bool) → f i ≡ x → x ≡ false
-        go false r = refl
-        go true r = absurd (clash (sym (any-yes k f i h r)) e)
-
     -- an action that the words of a set's states have not: no transition by it goes into the set
     quiet : (S : List ℕ) (j : ℕ) → j < actionsOf t → bit (actionsEntering rows (inRow S)) j ≡ false
         → (p q : ℕ) → p < 256 → q < n → inRow S q ≡ true → L .transition p (suc j) q ≡ false
     quiet S j h e p q hp hq m =
         let u : q < 256 = omega (arith, hq, small) in
-        let none = off 256 (λ q. inRow S q && bit (getD rows q 0) j) (sym (bit-wordOf 64 _ j (omega (arith, h, ok .labels))) ∙ e) q u in
+        let none = any-off 256 (λ q. inRow S q && bit (getD rows q 0) j) (sym (bit-wordOf 64 _ j (omega (arith, h, ok .labels))) ∙ e) q u in
         let unset : bit (getD rows q 0) j ≡ false = sym (ap (λ (b : Bool). b && bit (getD rows q 0) j) m) ∙ none in
-        off 256 (λ p. L .transition p (suc j) q) (sym (at .index .actions (suc j) q (omega arith) h u) ∙ ap (bit (getD rows q 0)) (less j) ∙ unset) p hp
+        any-off 256 (λ p. L .transition p (suc j) q) (sym (at .index .actions (suc j) q (omega arith) h u) ∙ ap (bit (getD rows q 0)) (less j) ∙ unset) p hp
 
     -- by one with no transition into N, Rem is empty
     unused : (j : ℕ) → j < actionsOf t → bit (actionsEntering rows (inRow outside)) j ≡ false
@@ -191,7 +178,8 @@ module _ {t places rows all : List ℕ} {b : ℕ} {related viewed blocks shared 
     missed j h lone e = no-into (suc j) (inRow members) (λ p r hp hr m.
         let u : r < 256 = omega (arith, hr, small) in
         let same = at .begun .parts .single b r low u lone (sym (set-in _ (turn .members-is) r u) ∙ m) in
-        ap (L .transition p (suc j)) same ∙ off 256 (λ p. L .transition p (suc j) b) (sym (at .index .actions (suc j) b (omega arith) h low) ∙ ap (bit (getD rows b 0)) (less j) ∙ e) p hp)
+        ap (L .transition p (suc j)) same ∙ any-off 256 (λ p. L .transition p (suc j) b)
+        (sym (at .index .actions (suc j) b (omega arith) h low) ∙ ap (bit (getD rows b 0)) (less j) ∙ e) p hp)
 
     abbrev Picked : ℕ → ℕ → Type 0
     Picked j word = bit word j ≡ false → Idle (removedBy t (inRow inside) (inRow outside) (suc j)) (hitsBy t (inRow members) (suc j)) (setAt blocks)
@@ -215,8 +203,8 @@ module _ {t places rows all : List ℕ} {b : ℕ} {related viewed blocks shared 
     idle : (j : ℕ) → j < actionsOf t → Picked j actions
     idle j h = by-word (Picked j) (λ e. inr (inside-missed j h e, inside-unsplit j h e)) (λ e. inl (unused j h e))
         (λ none e. inr (
-          missed j h (off 256 (inRow shared) none b low) e,
-          λ g k hg hk p. ap (removedBy t (inRow inside) (inRow outside) (suc j)) (at .begun .parts .single g k hg hk (off 256 (inRow shared) none g hg) p),
+          missed j h (any-off 256 (inRow shared) none b low) e,
+          λ g k hg hk p. ap (removedBy t (inRow inside) (inRow outside) (suc j)) (at .begun .parts .single g k hg hk (any-off 256 (inRow shared) none g hg) p),
         ))
 
     pub step-fixed : ((j : ℕ) → getD rows j 0 < 2 ^ 64) → Fixed t places rows actions (inRow members) (inRow inside) (inRow outside) (setAt blocks) whole
@@ -286,17 +274,15 @@ module _ {t places rows all : List ℕ} {b : ℕ} {related viewed blocks shared 
       unfolding relationsOf
       before g h e = held-inside n related g h e .0
 
-      untrue : (x : Bool) → (T x → ⊥) → x ≡ false
-      untrue false f = refl
-      untrue true f = absurd (f tt)
-
       module _ {final : List ℕ} (touch : final ≡ rowOf 4 (λ q. (inRow members q || inRow touched q) && inRow all q)) where
         final-in : (g : ℕ) → g < 256 → inRow final g ≡ (inRow members g || inRow touched g) && inRow all g
         final-in g h = set-in _ touch g h
 
         -- a state outside what was touched was touched by no action, or is none of the table
         outs : (g : ℕ) → g < 256 → inRow final g ≡ false → ((inRow members g ≡ false) × (inRow touched g ≡ false)) ⊎ (n ≤ g)
-        outs g h e = ⊎-elim (λ (l : g < n). inl (neither _ _ (sym (and-true _) ∙ ap (λ (x : Bool). (inRow members g || inRow touched g) && x) (sym (all-in g l)) ∙ sym (final-in g h) ∙ e))) (λ (l : n ≤ g). inr l) (lt-or-ge g n)
+        outs g h e = ⊎-elim
+            (λ (l : g < n). inl (neither _ _ (sym (and-true _) ∙ ap (λ (x : Bool). (inRow members g || inRow touched g) && x) (sym (within g l))
+            ∙ sym (final-in g h) ∙ e))) (λ (l : n ≤ g). inr l) (lt-or-ge g n)
 
         related-kept : (g h : ℕ) → g < 256 → h < 256 → inRow final g ≡ false → setAt related′ g h ≡ setAt related g h
         related-kept g h u v e = ⊎-elim (λ o. done .untouched .related-same g h u v (o .1))
@@ -327,6 +313,6 @@ module _ {t places rows all : List ℕ} {b : ℕ} {related viewed blocks shared 
           viewed-same = viewed-kept;
           parts = parts;
           owned = λ g u e.
-              let l = all-below g u (and-snd (inRow members g || inRow touched g) (inRow all g) (sym (final-in g u) ∙ e)) in
+              let l = all-below n (at .all-is) g u (and-snd (inRow members g || inRow touched g) (inRow all g) (sym (final-in g u) ∙ e)) in
               sets-in 256 _ blocks-next g g u u ∙ T-true _ (block-iff (stepOf L b s .related) g g .1 (loop g l, loop g l));
         }

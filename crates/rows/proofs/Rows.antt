@@ -1,6 +1,6 @@
 -- Laws of lists given by a function, and of rows of words. Assumes nothing.
 use mathlib.Core.Path.{_≡_, refl, sym, ap, ap₂, _∙_, subst⁻¹}
-use mathlib.Core.Bool.{Bool, true, false, not, _&&_, _||_, xor, and-true, and-false}
+use mathlib.Core.Bool.{Bool, true, false, not, _&&_, _||_, xor, and-true, and-false, or-false, or-comm}
 use mathlib.Core.Logic.{_⊎_, inl, inr, ⊎-elim}
 use mathlib.Core.List.{List, _++_, append-nil}
 use Prim.Native.Nat.{ℕ, zero, suc, _+_, _-_, _*_, _/_, _%_, _^_, _≤_, _<_}
@@ -8,7 +8,7 @@ use native.Mathlib.Nat.{div-add-mod', mod-lt, eq-or-lt-of-le}
 use native.Mathlib.Omega.{arith}
 use lib.Bits.{bitAnd, bitOr, bitXor, and-lt, or-lt, xor-lt, and-le-l}
 use lib.Arith.{digits-div, digits-mod}
-use lib.ListN.{length, replicate, length-replicate, getD-replicate, List·getD-append, getD, set, take, drop, length-set, length-append, length-drop, drop-of-length-le}
+use lib.ListN.{length, replicate, length-replicate, List·getD-append, getD, set, take, drop, length-set, length-append, length-drop, drop-of-length-le}
 use lib.Seq.{length-take-le, getD-drop, getD-append-add, getD-set-same, getD-set-other, take-all}
 use lib.Dec.{eqb, ltb}
 use lib.Pow.{pow-pos}
@@ -51,14 +51,6 @@ unfolding inRow
 inRow-written k S rest q h =
     ap (λ (x : ℕ). bit x (q % 64)) (List·getD-append (rowOf k S) rest 0 (q / 64) (omega (arith, length-listBelow k (wordAt S)))) ∙ inRow-of k S q h
 
-pub inRow-rest : (k : ℕ) (S : ℕ → Bool) (d : List ℕ) (q : ℕ) → k * 64 ≤ q → k ≤ length d → inRow (rowOf k S ++ drop k d) q ≡ inRow d q
-unfolding inRow
-inRow-rest k S d q h l =
-    let split : q / 64 ≡ length (rowOf k S) + (q / 64 - k) = omega (arith, length-listBelow k (wordAt S)) in
-    let back : k + (q / 64 - k) ≡ q / 64 = omega arith in
-    ap (λ (x : ℕ). bit x (q % 64))
-    (ap (λ (j : ℕ). getD (rowOf k S ++ drop k d) j 0) split ∙ getD-append-add (rowOf k S) (drop k d) (q / 64 - k) 0 ∙ getD-drop k d (q / 64 - k) 0 ∙ ap (λ (j : ℕ). getD d j 0) back)
-
 -- such a row is as long as it was
 pub length-written : (k : ℕ) (S : ℕ → Bool) (d : List ℕ) → k ≤ length d → length (rowOf k S ++ drop k d) ≡ length d
 length-written k S d l = simp (length-append, length-listBelow, length-drop) (omega arith)
@@ -76,12 +68,6 @@ prefix-long k n l = length-take-le k (replicate {A = ℕ} n 0) (subst⁻¹ (λ (
 pub inRow-zeros : (k q : ℕ) → inRow (replicate k 0) q ≡ false
 unfolding inRow
 inRow-zeros k q = ap (λ (x : ℕ). bit x (q % 64)) (getD-zeros k (q / 64)) ∙ bit-of-zero (q % 64)
-
-pub inRow-ones : (k q : ℕ) → q < k * 64 → inRow (replicate k 18446744073709551615) q ≡ true
-unfolding inRow
-inRow-ones k q h =
-    ap (λ (x : ℕ). bit x (q % 64)) (getD-replicate k (q / 64) 18446744073709551615 0 (omega arith))
-    ∙ bit-not 64 0 (q % 64) (mod-lt q (omega arith)) (pow-pos 64) ∙ ap not (bit-of-zero (q % 64))
 
 -- words of the same members are the same
 pub rowOf-cong : (k : ℕ) (A B : ℕ → Bool) → ((q : ℕ) → q < k * 64 → A q ≡ B q) → rowOf k A ≡ rowOf k B
@@ -131,10 +117,6 @@ or-bitwise = record { small = λ x y hx hy. or-lt 64 x y hx hy; bits = λ x y i 
 pub xor-bitwise : Bitwise bitXor xor
 xor-bitwise = record { small = λ x y hx hy. xor-lt 64 x y hx hy; bits = λ x y i hx hy l. bit-xor x y i }
 
--- the first operand
-pub left-bitwise : Bitwise (λ x y. x) (λ a b. a)
-left-bitwise = record { small = λ x y hx hy. hx; bits = λ x y i hx hy l. refl }
-
 pub minus-bitwise : Bitwise (λ x y. bitAnd x ((2 ^ 64 - 1) - y)) (λ a b. a && not b)
 minus-bitwise = record {
   small = λ x y hx hy. omega (arith, and-le-l x ((2 ^ 64 - 1) - y));
@@ -161,8 +143,9 @@ zip-joined op β ok a b c ha hb i l = ok .bits _ _ i ha hb l ∙ sym (ap₂ β (
 
 -- ---- a row of which word q / 64 is written anew: S is the row's set but at q
 
-same : (a b : ℕ) → (a ≡ b) ⊎ (a ≡ b → ⊥)
-same a b = ⊎-elim (λ (l : a < b). inr (λ e. omega arith)) (λ (l : b ≤ a). ⊎-elim (λ e. inl (sym e)) (λ (m : b < a). inr (λ e. omega arith)) (eq-or-lt-of-le l)) (lt-or-ge a b)
+pub eq-or-not : (a b : ℕ) → (a ≡ b) ⊎ (a ≡ b → ⊥)
+eq-or-not a b = ⊎-elim (λ (l : a < b). inr (λ e. omega arith))
+    (λ (l : b ≤ a). ⊎-elim (λ e. inl (sym e)) (λ (m : b < a). inr (λ e. omega arith)) (eq-or-lt-of-le l)) (lt-or-ge a b)
 
 pub row-change : (row : List ℕ) (q v : ℕ) (S : ℕ → Bool) → q / 64 < length row → ((j : ℕ) → getD row j 0 < 2 ^ 64)
     → ((x : ℕ) → (x ≡ q → ⊥) → S x ≡ inRow row x) → v < 2 ^ 64 → ((i : ℕ) → i < 64 → bit v i ≡ S (q / 64 * 64 + i))
@@ -171,7 +154,7 @@ row-change row q v S h words others small bits =
     list-ext (length row) (wordAt S) (set row (q / 64) v) (length-set row (q / 64) v) (λ j l.
     ⊎-elim (λ (e : j ≡ q / 64). ap (λ (k : ℕ). getD (set row (q / 64) v) k 0) e ∙ getD-set-same row (q / 64) v 0 h ∙ word-at S (q / 64) small bits ∙ ap (wordAt S) (sym e))
     (λ (ne : j ≡ q / 64 → ⊥). getD-set-other row (q / 64) j v 0 ne ∙ word-at S j (words j) (λ i k.
-    sym (inRow-at row j i k) ∙ sym (others (j * 64 + i) (λ e. ne (omega arith))))) (same j (q / 64)))
+    sym (inRow-at row j i k) ∙ sym (others (j * 64 + i) (λ e. ne (omega arith))))) (eq-or-not j (q / 64)))
 
 -- ---- one state more in a row, or one less: `row[q / 64] | 1 << q % 64`, `row[q / 64] & !(1 << q % 64)`
 
@@ -189,21 +172,11 @@ module _ (row : List ℕ) (q : ℕ) (h : q / 64 < length row) (words : (j : ℕ)
   bit-one i l =
       ap (λ (x : ℕ). bit x i) (one-shl (q % 64) (mod-lt q (omega arith))) ∙ bit-pow (q % 64) i
       ∙ ⊎-elim (λ (e : i ≡ q % 64). eq-eqb i (q % 64) e ∙ sym (eq-eqb (q / 64 * 64 + i) q (omega arith)))
-      (λ ne. ne-eqb i (q % 64) ne ∙ sym (ne-eqb (q / 64 * 64 + i) q (λ e. ne (omega arith)))) (same i (q % 64))
+      (λ ne. ne-eqb i (q % 64) ne ∙ sym (ne-eqb (q / 64 * 64 + i) q (λ e. ne (omega arith)))) (eq-or-not i (q % 64))
 
   pub row-insert : set row (q / 64) (bitOr word one) ≡ rowOf (length row) (λ x. eqb x q || inRow row x)
   row-insert = row-change row q (bitOr word one) _ h words (λ x ne. ap (λ (b : Bool). b || inRow row x) (ne-eqb x q ne)) (or-lt 64 _ _ (words (q / 64)) one-small) (λ i l.
-      bit-or word one i ∙ ap₂ _||_ (sym (inRow-at row (q / 64) i l)) (bit-one i l) ∙ swap (inRow row (q / 64 * 64 + i)) (eqb (q / 64 * 64 + i) q))
-    where
-      swap : (a b : Bool) → a || b ≡ b || a
-      swap true true = refl
-      swap true false = refl
-      swap false true = refl
-      swap false false = refl
-
-or-false : (b : Bool) → b || false ≡ b
-or-false true = refl
-or-false false = refl
+      bit-or word one i ∙ ap₂ _||_ (sym (inRow-at row (q / 64) i l)) (bit-one i l) ∙ or-comm (inRow row (q / 64 * 64 + i)) (eqb (q / 64 * 64 + i) q))
 
 -- ---- a set that is gathered turn by turn: after j turns the row has what it had, and each q with H q i for an i below j
 
@@ -292,10 +265,6 @@ set-words k w A S d room long blank agree none =
     ap (λ (j : ℕ). getD (rowOf w A ++ drop w d) j 0) split ∙ getD-append-add (rowOf w A) (drop w d) (c - w) 0 ∙ getD-drop w d (c - w) 0 ∙ blank (w + (c - w))
     ∙ word-at S c (pow-pos 64) (λ i b. bit-of-zero i ∙ sym (none (c * 64 + i) (omega arith))))
     (lt-or-ge c w))
-
--- what is added to words that are all 0
-pub row-from-none : (k : ℕ) (S : Set) → rowOf k (λ q. inRow (replicate k 0) q || S q) ≡ rowOf k S
-row-from-none k S = rowOf-cong k _ _ (λ q h. ap (λ (b : Bool). b || S q) (inRow-zeros k q))
 
 -- a walk from one number that passes to the next: as many pass below `from` as below the next, and there is one where more pass
 pub next-place : (f : ℕ → Bool) (k from r i : ℕ) → Next f k from r → length (passing from f) ≡ i → i < length (passing k f)

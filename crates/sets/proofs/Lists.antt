@@ -1,10 +1,10 @@
 -- Laws of sets of four words, and of lists of them. Assumes nothing.
-use mathlib.Core.Path.{_≡_, refl, sym, ap, ap₂, _∙_, subst, subst⁻¹}
-use mathlib.Core.Bool.{Bool, true, false, cond, not, _&&_, _||_, true≢false}
+use mathlib.Core.Path.{_≡_, refl, sym, ap, ap₂, _∙_, subst⁻¹}
+use mathlib.Core.Bool.{Bool, true, false, cond, not, _||_, xor, true≢false}
 use mathlib.Core.Logic.{_⊎_, inl, inr, ⊎-elim}
 use mathlib.Core.List.{List, [], _∷_}
-use Prim.Native.Nat.{ℕ, zero, suc, _+_, _-_, _*_, _/_, _%_, _^_, _≤_, _<_}
-use native.Mathlib.Nat.{eq-or-lt-of-le, not-suc-le-zero, le-of-suc-le-suc, mod-lt, div-add-mod'}
+use Prim.Native.Nat.{ℕ, zero, suc, _+_, _*_, _/_, _%_, _^_, _≤_, _<_}
+use native.Mathlib.Nat.{not-suc-le-zero, le-of-suc-le-suc, mod-lt}
 use native.Mathlib.Omega.{arith}
 use lib.Dec.{eqb}
 use lib.Bits.{bitOr, or-lt}
@@ -13,10 +13,10 @@ use lib.Seq.{getD-set-same, getD-set-other}
 use borrow.Author.Tests.{eq-eqb, ne-eqb, eqb-true}
 use Rattle.lts.specs.Bounded.{anyBelow}
 use Rattle.lts.specs.System.{Set, Rel}
-use Rattle.lts.proofs.Below.{bool-iff, any-yes, any-some, list-ext, length-listBelow, clash, lt-or-ge}
+use Rattle.lts.proofs.Below.{bool-iff, any-yes, any-some, list-ext, length-listBelow, clash, either}
 use Rattle.rows.specs.Rows.{bit, inRow, wordAt, rowOf}
 use Rattle.rows.proofs.Bits.{bit-or, bit-of-zero, word-ext, word-zero}
-use Rattle.rows.proofs.Rows.{Bitwise, inRow-at, inRow-of, word-at, wordAt-lt, bit-wordAt, rowOf-cong, row-ext, zip-joined}
+use Rattle.rows.proofs.Rows.{eq-or-not, Bitwise, inRow-at, inRow-of, word-at, rowOf-cong, row-ext, zip-joined}
 use Rattle.sets.specs.Sets.{setAt, setsOf}
 
 -- ---- four words
@@ -43,6 +43,24 @@ zip-four op β ok a b ha hb = four _ (word 0) (word 1) (word 2) (word 3)
 -- the members of a set
 pub set-in : (S : Set) {a : List ℕ} → a ≡ rowOf 4 S → (q : ℕ) → q < 256 → inRow a q ≡ S q
 set-in S e q h = ap (λ (l : List ℕ). inRow l q) e ∙ inRow-of 4 S q h
+
+pub set-long : (S : Set) {a : List ℕ} → a ≡ rowOf 4 S → length a ≡ 4
+set-long S e = ap length e ∙ length-listBelow 4 (wordAt S)
+
+-- a set with no member
+pub any-off : (k : ℕ) (S : Set) → anyBelow k S ≡ false → (q : ℕ) → q < k → S q ≡ false
+any-off k S e q h = ⊎-elim (λ (t : S q ≡ true). absurd (clash (sym (any-yes k S q h t)) e)) (λ (f : S q ≡ false). f) (either (S q))
+
+-- two sets that do not differ
+pub same-sets : (A B : Set) → anyBelow 256 (λ q. xor (A q) (B q)) ≡ false → (q : ℕ) → q < 256 → A q ≡ B q
+unfolding xor
+same-sets A B e q h = go (A q) (B q) (any-off 256 (λ q. xor (A q) (B q)) e q h)
+  where
+    go : (a b : Bool) → xor a b ≡ false → a ≡ b
+    go true true r = refl
+    go false false r = refl
+    go true false r = absurd (true≢false r)
+    go false true r = absurd (true≢false r)
 
 -- a set has a state exactly if its words, joined, are not 0
 or-some : (a b c d : Bool) → (a || b) || (c || d) ≡ true → (a ≡ true) ⊎ (b ≡ true) ⊎ (c ≡ true) ⊎ (d ≡ true)
@@ -91,14 +109,7 @@ module _ (a : List ℕ) (words : (j : ℕ) → getD a j 0 < 2 ^ 64) where
       at c i l h e = sym (any-yes 256 (inRow a) (c * 64 + i) (omega arith) (inRow-at a c i h ∙ e))
 
       zero-none : anyBelow 64 (bit joined) ≡ false → joined ≡ 0
-      zero-none e = word-ext 64 (λ i. false) small (λ i l. off i l) ∙ word-zero 64
-        where
-          off : (i : ℕ) → i < 64 → bit joined i ≡ false
-          off i l = go (bit joined i) refl
-            where
-              go : (b : Bool) → bit joined i ≡ b → b ≡ false
-              go false r = refl
-              go true r = absurd (clash (sym (any-yes 64 (bit joined) i l r)) e)
+      zero-none e = word-ext 64 (λ i. false) small (any-off 64 (bit joined) e) ∙ word-zero 64
 
       to : not (eqb joined 0) ≡ true → anyBelow 256 (inRow a) ≡ true
       to e = go (anyBelow 64 (bit joined)) refl
@@ -177,11 +188,7 @@ set-at l i v j h =
     ⊎-elim
     (λ (e : eqb j i ≡ true). let same = eqb-true j i e in ap (λ (k : ℕ). getD (set l i v) k 0) same ∙ getD-set-same l i v 0 h ∙ sym (ap (λ (b : Bool). cond b v (getD l j 0)) e))
     (λ (e : eqb j i ≡ false). getD-set-other l i j v 0 (λ same. true≢false (sym (eq-eqb j i same) ∙ e)) ∙ sym (ap (λ (b : Bool). cond b v (getD l j 0)) e))
-    (two (eqb j i))
-  where
-    two : (b : Bool) → (b ≡ true) ⊎ (b ≡ false)
-    two true = inl refl
-    two false = inr refl
+    (either (eqb j i))
 
 -- set p is written word by word
 module _ (g a : List ℕ) (p : ℕ) (room : p * 4 + 4 ≤ length g) (words : (j : ℕ) → getD g j 0 < 2 ^ 64) (own : (j : ℕ) → getD a j 0 < 2 ^ 64) where
@@ -258,7 +265,4 @@ module _ (g a : List ℕ) (p : ℕ) (room : p * 4 + 4 ≤ length g) (words : (j 
           sym (inRow-at a (j % 4) i h) ∙ sym (ap₂ (λ (b : Bool) (x : ℕ). cond b (inRow a x) (inRow g (j * 64 + i))) (eq-eqb _ p (row j i h ∙ e)) (column j i h))))
           (λ (ne : j / 4 ≡ p → ⊥). outside j ne ∙ word-at S j (words j) (λ i h.
           sym (inRow-at g j i h) ∙ sym (ap (λ (b : Bool). cond b (inRow a ((j * 64 + i) % 256)) (inRow g (j * 64 + i))) (ne-eqb _ p (λ z. ne (sym (row j i h) ∙ z))))))
-          (same (j / 4) p)
-        where
-          same : (x y : ℕ) → (x ≡ y) ⊎ (x ≡ y → ⊥)
-          same x y = ⊎-elim (λ (l : x < y). inr (λ e. omega (arith, l, e))) (λ (l : y ≤ x). ⊎-elim (λ e. inl (sym e)) (λ (m : y < x). inr (λ e. omega (arith, m, e))) (eq-or-lt-of-le l)) (lt-or-ge x y)
+          (eq-or-not (j / 4) p)

@@ -1,6 +1,6 @@
 -- A matrix as a list of sets, row by row. Assumes nothing.
-use mathlib.Core.Path.{_≡_, refl, sym, ap, ap₂, _∙_}
-use mathlib.Core.Bool.{Bool, true, false, cond, _&&_, and-false}
+use mathlib.Core.Path.{_≡_, sym, ap, ap₂, _∙_}
+use mathlib.Core.Bool.{Bool, false, cond, _&&_, and-assoc}
 use mathlib.Core.Logic.{⊎-elim}
 use mathlib.Core.List.{List}
 use Prim.Native.Nat.{ℕ, _+_, _/_, _%_, _≤_, _<_}
@@ -10,7 +10,7 @@ use lib.Dec.{eqb, ltb}
 use lib.ListN.{length}
 use borrow.Author.Tests.{lt-ltb, le-ltb, eq-eqb, ne-eqb}
 use Rattle.lts.specs.Bounded.{restrict}
-use Rattle.lts.specs.System.{Set, Rel}
+use Rattle.lts.specs.System.{Rel}
 use Rattle.lts.proofs.Below.{lt-or-ge}
 use Rattle.rows.specs.Rows.{inRow, rowOf, statesBelow}
 use Rattle.relation.specs.Matrix.{matrixOf, rowsOf}
@@ -41,11 +41,7 @@ rows-put R p list row now is put =
 
 pub rows-whole : (n p : ℕ) (R : Rel) → p ≡ n → setsOf 256 (firstRows p (λ t. statesBelow n (R t))) ≡ setsOf 256 (restrict n R)
 unfolding restrict
-rows-whole n p R e = ap (λ (k : ℕ). setsOf 256 (firstRows k (λ t. statesBelow n (R t)))) e ∙ sets-cong 256 _ _ (λ t q _ _. regroup (ltb t n) (ltb q n) (R t q))
-  where
-    regroup : (a b c : Bool) → a && (b && c) ≡ (a && b) && c
-    regroup true b c = refl
-    regroup false b c = refl
+rows-whole n p R e = ap (λ (k : ℕ). setsOf 256 (firstRows k (λ t. statesBelow n (R t)))) e ∙ sets-cong 256 _ _ (λ t q _ _. sym (and-assoc (ltb t n) (ltb q n) (R t q)))
 
 -- no row of a matrix written yet
 pub rows-begin : (n : ℕ) (N R : Rel) → matrixOf n R ≡ matrixOf n (rowsOf 0 N R)

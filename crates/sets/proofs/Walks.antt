@@ -1,23 +1,19 @@
 -- A walk over the bits of a word from the lowest up: `x & (x - 1)` drops the lowest one. Assumes nothing.
 use mathlib.Core.Path.{_≡_, refl, sym, ap, ap₂, _∙_, fun-ext}
-use mathlib.Core.Bool.{Bool, true, false, cond, not, _&&_, and-true, and-false}
-use mathlib.Core.Logic.{_⊎_, inl, inr, ⊎-elim}
-use Prim.Native.Nat.{ℕ, zero, suc, _+_, _-_, _*_, _/_, _%_, _^_, _≤_, _<_}
-use native.Mathlib.Nat.{pow-suc, eq-or-lt-of-le}
+use mathlib.Core.Bool.{Bool, true, false, cond, not, _&&_, and-true, and-false, and-self}
+use mathlib.Core.Logic.{⊎-elim}
+use Prim.Native.Nat.{ℕ, zero, suc, _+_, _-_, _/_, _%_, _^_, _≤_, _<_}
+use native.Mathlib.Nat.{pow-suc}
 use native.Mathlib.Omega.{arith}
 use lib.Dec.{eqb, eqb·suc-suc, eqb·suc-zero}
-use lib.Bits.{bitAnd, and-le-l}
+use lib.Bits.{bitAnd, and-le-l, and-le-r}
 use lib.Count.{trailingZeros}
 use borrow.Author.Tests.{eq-eqb, ne-eqb}
 use Rattle.lts.specs.Bounded.{lowest}
-use Rattle.lts.proofs.Below.{clash, lt-or-ge}
+use Rattle.lts.proofs.Below.{clash, lt-or-ge, and-fst}
 use Rattle.rows.specs.Rows.{bit}
 use Rattle.rows.proofs.Bits.{bit-and, bit-zero, bit-suc, bit-of-zero, digit-cases}
 use Rattle.rows.proofs.Counts.{trailing-lowest, trailing-lt, trailing-at, trailing-before}
-
-and-twice : (b : Bool) → b && b ≡ b
-and-twice true = refl
-and-twice false = refl
 
 -- the bits that x and x - 1 share: all of x but the lowest
 shared-bits : (k x : ℕ) → x < 2 ^ k → (x ≡ 0 → ⊥) → (j : ℕ) → bit x j && bit (x - 1) j ≡ bit x j && not (eqb j (lowest k (bit x)))
@@ -40,7 +36,7 @@ shared-bits (suc k) x h ne j = ⊎-elim (even (shared-bits k)) odd (digit-cases 
         at : (i : ℕ) → bit x i && bit (x - 1) i ≡ bit x i && not (eqb i (cond (bit x 0) zero (suc (lowest k (λ i. bit x (suc i))))))
         at zero = ap (λ (b : Bool). bit x 0 && b) (low ∙ sym (ap (λ (b : Bool). not (eqb 0 (cond b zero (suc (lowest k (λ i. bit x (suc i))))))) one))
         at (suc i) =
-            ap (λ (b : Bool). bit x (suc i) && b) (bit-suc (x - 1) i ∙ ap (λ (y : ℕ). bit y i) halves ∙ sym (bit-suc x i)) ∙ and-twice (bit x (suc i))
+            ap (λ (b : Bool). bit x (suc i) && b) (bit-suc (x - 1) i ∙ ap (λ (y : ℕ). bit y i) halves ∙ sym (bit-suc x i)) ∙ and-self (bit x (suc i))
             ∙ sym (ap (λ (b : Bool). bit x (suc i) && not (eqb (suc i) (cond b zero (suc (lowest k (λ i. bit x (suc i))))))) one
             ∙ ap (λ (b : Bool). bit x (suc i) && not b) (eqb·suc-zero i) ∙ and-true (bit x (suc i)))
 
@@ -121,3 +117,42 @@ module _ (w i r : ℕ) (now : Rest w i r) (ne : r ≡ 0 → ⊥) where
 
 pub rest-end : (w i r : ℕ) → Rest w i r → r ≡ 0 → (j : ℕ) → i ≤ j → j < 64 → bit w j ≡ false
 rest-end w i r now e j l m = sym (now .left j l m) ∙ ap (λ (x : ℕ). bit x j) e ∙ bit-of-zero j
+
+-- ---- bits that leave the word, the lowest first or many at once
+
+-- `left` is a part of the word
+pub record Part (word left : ℕ) : Type 0 where
+  pub small : left < 2 ^ 64
+  pub within : (j : ℕ) → j < 64 → bit left j ≡ true → bit word j ≡ true
+
+pub part-all : (word : ℕ) → word < 2 ^ 64 → Part word word
+part-all word h = record { small = h; within = λ j l e. e }
+
+-- bits leave without a walk
+pub part-drop : (word left mask : ℕ) → Part word left → Part word (bitAnd left mask)
+part-drop word left mask part = record {
+  small = omega (arith, and-le-l left mask, part .small);
+  within = λ j l e. part .within j l (and-fst (bit left j) (bit mask j) (sym (bit-and left mask j) ∙ e));
+}
+
+module _ (word left : ℕ) (part : Part word left) (ne : left ≡ 0 → ⊥) where
+  abbrev low : ℕ
+  low = trailingZeros 64 left
+
+  pub low-lt : trailingZeros 64 left < 64
+  low-lt = trailing-lt 64 left (part .small) ne
+
+  pub low-in : bit left (trailingZeros 64 left) ≡ true
+  low-in = trailing-at 64 left low-lt
+
+  pub part-less : bitAnd left (left - 1) < left
+  part-less = omega (arith, and-le-r left (left - 1), some)
+    where
+      some : 0 < left
+      some = ⊎-elim (λ (l : 0 < left). l) (λ (l : left ≤ 0). absurd (ne (omega (arith, l)))) (lt-or-ge 0 left)
+
+  pub part-next : Part word (bitAnd left (left - 1))
+  part-next = record {
+    small = omega (arith, part-less, part .small);
+    within = λ j l e. part .within j l (and-fst (bit left j) (not (eqb j low)) (sym (drop-lowest left (part .small) ne j) ∙ e));
+  }

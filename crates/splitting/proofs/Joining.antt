@@ -1,13 +1,13 @@
 -- The states whose block has a member of a set, as blocks are added; and what such a set says of a split. Assumes nothing.
 use mathlib.Core.Path.{_≡_, refl, sym, ap, ap₂, _∙_}
-use mathlib.Core.Bool.{Bool, true, false, _&&_, _||_, xor, and-false, or-true}
+use mathlib.Core.Bool.{Bool, true, false, _&&_, _||_, and-false, or-true}
 use mathlib.Core.Logic.{⊎-elim}
 use Prim.Native.Nat.{ℕ, _<_}
 use lib.Dec.{eqb}
 use borrow.Author.Tests.{eq-eqb, eqb-true}
 use Rattle.lts.specs.Bounded.{anyBelow}
 use Rattle.lts.specs.System.{Set, Rel}
-use Rattle.lts.proofs.Below.{clash, either, bool-iff, and-fst, and-snd, any-yes, any-some, any-no, any-cong}
+use Rattle.lts.proofs.Below.{either, bool-iff, and-fst, and-snd, any-yes, any-some, any-no, any-cong}
 use Rattle.sets.specs.Parts.{Parted, Owned}
 use Rattle.splitting.specs.Split.{Unsplit, Meets}
 
@@ -114,18 +114,3 @@ module _ (P : Rel) (shared : Set) (parts : Parted P shared) where
           (λ (s : shared h ≡ true). and-fst (Rem g) (shared g)
           (sym (both g hg) ∙ sym (same g hg) ∙ met-by P cut whole meets g h hg hh p (both h hh ∙ ap₂ _&&_ r s)))
           (λ (s : shared h ≡ false). ap Rem (parts .single h g hh hg s (parts .sym g h hg hh p)) ∙ r) (either (shared h))
-
--- two sets that do not differ
-pub same-sets : (A B : Set) → anyBelow 256 (λ q. xor (A q) (B q)) ≡ false → (q : ℕ) → q < 256 → A q ≡ B q
-unfolding xor
-same-sets A B e q hq = go (A q) (B q) refl refl
-  where
-    go : (a b : Bool) → A q ≡ a → B q ≡ b → a ≡ b
-    go true true f h = refl
-    go false false f h = refl
-    go true false f h = absurd (clash (sym (any-yes 256 (λ q. xor (A q) (B q)) q hq (ap₂ xor f h))) e)
-    go false true f h = absurd (clash (sym (any-yes 256 (λ q. xor (A q) (B q)) q hq (ap₂ xor f h))) e)
-
--- a set with no member
-pub no-member : (A : Set) → anyBelow 256 A ≡ false → (q : ℕ) → q < 256 → A q ≡ false
-no-member A e q hq = ⊎-elim (λ (t : A q ≡ true). absurd (clash (sym (any-yes 256 A q hq t)) e)) (λ (f : A q ≡ false). f) (either (A q))

@@ -1,4 +1,4 @@
--- `adjacency::lacking` meets its contract: by `kept-bits`, word by word, and `kept-lacking`. Assumes nothing.
+-- `adjacency::lacking` meets its contract: by `kept-word`, word by word, and `kept-lacking`. Assumes nothing.
 use mathlib.Core.Path.{_≡_, refl, _∙_}
 use mathlib.Core.List.{_++_}
 use Prim.Native.Nat.{ℕ, _-_, _≤_}
@@ -7,8 +7,9 @@ use denote.Ref.{now}
 use lib.ListN.{length, length-set, drop, replicate}
 use Rattle.lts.specs.Bounded.{listBelow}
 use Rattle.rows.specs.Rows.{rowOf}
-use Rattle.rows.proofs.Rows.{row-more, row-done, row-whole}
-use Rattle.adjacency.proofs.Lookups.{kept, kept-bits, kept-small, kept-lacking}
+use Rattle.rows.proofs.Rows.{row-store, row-done, row-whole}
+use Rattle.sets.proofs.Keeping.{kept-word}
+use Rattle.adjacency.proofs.Lookups.{lacks, kept, kept-lacking}
 use borrow.Author.Needs.{needs}
 use Rattle.adjacency.proofs.lacking.Statement.{statement}
 use Rattle.adjacency.proofs.lacking.Tie as tie
@@ -52,11 +53,11 @@ loop-again c =
     let at = c .before .before .loop in
     let places = now (a .places) in
     let rows = now (a .rows) in
-    let word = c .lacking-word .ensures in (
+    let test = lacks places rows (a .a) (a .inside) in (
       search needs,
       rw length-set (at .inv .1),
-      row-more (kept places rows (a .a) (a .t4) (a .inside)) (replicate {A = ℕ} 4 0) (at .out) (at .c) (at .inv .2) (c .before .loop-test .taken)
-          (kept-small places rows (a .a) (a .t4) (a .inside) (at .c) word) (kept-bits places rows (a .a) (a .t4) (a .inside) (at .c) word),
+      row-store (kept places rows (a .a) (a .t4) (a .inside)) (replicate {A = ℕ} 4 0) (at .out) (at .c) (at .inv .2) (c .before .loop-test .taken)
+          (kept-word (a .t4) test test (at .c) (c .lacking-word .ensures) (λ i l. refl)),
     )
 
 returns : tie.Need-returns Inv-loop μ-loop

@@ -1,30 +1,29 @@
 -- `adjacency::lacking_word` meets its contract: by the laws of `Keeping`. Assumes nothing.
-use mathlib.Core.Path.{_≡_, refl, ap, _∙_}
+use mathlib.Core.Path.{_≡_, ap, _∙_}
 use mathlib.Core.Bool.{Bool, cond, not, _&&_}
 use mathlib.Core.List.{List}
-use Prim.Native.Nat.{ℕ, _+_, _-_, _*_, _^_, _<_}
+use Prim.Native.Nat.{ℕ, _+_, _*_, _^_, _<_}
 use native.Mathlib.Omega.{arith}
 use denote.Ref.{now}
-use lib.Bits.{and-le-r}
 use lib.Count.{trailingZeros}
 use Rattle.lts.specs.Bounded.{anyBelow}
 use Rattle.lts.specs.System.{Set}
 use Rattle.lts.proofs.Below.{any-cong}
 use Rattle.rows.specs.Rows.{inRow}
 use Rattle.sets.proofs.Lists.{set-in}
-use Rattle.sets.proofs.Walks.{rest-next}
-use Rattle.adjacency.proofs.Lookups.{targetsOf}
-use Rattle.adjacency.proofs.Words.{Keeping, keep-begin, keep-more, keep-end}
+use Rattle.sets.proofs.Walks.{part-less, low-lt}
+use Rattle.sets.proofs.Keeping.{Keeping, keep-begin, keep-more, keep-end}
+use Rattle.adjacency.proofs.Lookups.{targetsOf, lacks}
 use borrow.Author.Needs.{needs}
 use Rattle.adjacency.proofs.lacking_word.Statement.{statement}
 use Rattle.adjacency.proofs.lacking_word.Tie as tie
 
 -- state i of word c has no transition into the set
-abbrev lacks : List ℕ → List ℕ → ℕ → ℕ → List ℕ → Set
-lacks places rows a c inside i = not (anyBelow 256 (λ q. targetsOf places rows a (64 * c + i) q && inRow inside q))
+abbrev test : List ℕ → List ℕ → ℕ → ℕ → List ℕ → Set
+test places rows a c inside i = lacks places rows a inside (64 * c + i)
 
 abbrev Inv-loop : tie.InvT-loop
-Inv-loop places rows a c word inside out₀ left₀ out left = Keeping word (lacks places rows a c inside) left out
+Inv-loop places rows a c word inside out₀ left₀ out left = Keeping word (test places rows a c inside) left out
 
 abbrev μ-loop : tie.MeasureT-loop
 μ-loop places rows a c word inside out₀ left₀ out left = left
@@ -33,11 +32,11 @@ loop-holds : tie.Need-loop-holds Inv-loop μ-loop
 loop-holds c =
     let a = c .before .before .args in
     let word : a .word < 2 ^ 64 = search needs in
-    keep-begin (a .word) (lacks (now (a .places)) (now (a .rows)) (a .a) (a .c) (a .inside)) word
+    keep-begin (a .word) (test (now (a .places)) (now (a .rows)) (a .a) (a .c) (a .inside)) word
 
 -- the bit is in the word
 low : (c : tie.In-loop Inv-loop μ-loop) → trailingZeros 64 (c .before .loop .left) < 64
-low c = let inv = c .before .loop .inv in rest-next _ (inv .i) _ (inv .rest) (c .loop-test .taken) .below
+low c = low-lt _ _ (c .before .loop .inv .part) (c .loop-test .taken)
 
 cast-i : tie.Need-cast-i Inv-loop μ-loop
 cast-i c = omega (arith, low c)
@@ -75,8 +74,7 @@ shl-out : tie.Need-shl-out Inv-loop μ-loop
 shl-out c = low (c .before .before .before .before)
 
 loop-less : tie.Need-loop-less Inv-loop μ-loop
-loop-less c = let left = c .before .before .before .before .before .loop .left in
-    omega (arith, and-le-r left (left - 1), c .before .before .before .before .loop-test .taken)
+loop-less c = part-less _ _ (c .before .before .before .before .before .loop .inv .part) (c .before .before .before .before .loop-test .taken)
 
 loop-again : tie.Need-loop-again Inv-loop μ-loop
 loop-again c =
@@ -87,13 +85,13 @@ loop-again c =
     c .before .any .ensures
     ∙ any-cong 256 _ _ (λ q h. set-in _ (c .before .before .meet .ensures) q h
     ∙ ap (λ (x : Bool). x && inRow (a .inside) q) (set-in here (c .before .before .before .row-of .ensures) q h)) in
-    keep-more (a .word) (lacks (now (a .places)) (now (a .rows)) (a .a) (a .c) (a .inside)) (at .inv) (c .before .before .before .before .loop-test .taken)
-    (c .digit .ensures ∙ ap (λ (x : Bool). cond (not x) 1 0) goes) refl
+    keep-more (a .word) (test (now (a .places)) (now (a .rows)) (a .a) (a .c) (a .inside)) (at .inv) (c .before .before .before .before .loop-test .taken)
+    (c .digit .ensures ∙ ap (λ (x : Bool). cond (not x) 1 0) goes)
 
 returns : tie.Need-returns Inv-loop μ-loop
 returns c =
     let a = c .before .before .before .before .args in
-    keep-end (a .word) (lacks (now (a .places)) (now (a .rows)) (a .a) (a .c) (a .inside)) (c .before .loop .inv) (search needs)
+    keep-end (a .word) (test (now (a .places)) (now (a .rows)) (a .a) (a .c) (a .inside)) (c .before .loop .inv) (search needs)
 
 pub lacking-word-spec : {M : Type 1} → statement M
 lacking-word-spec =

@@ -12,9 +12,9 @@ use Rattle.lts.specs.Refinement.{block}
 use Rattle.lts.specs.System.{Rel}
 use Rattle.rows.specs.Rows.{inRow, rowOf, statesBelow, Next}
 use Rattle.sets.specs.Sets.{setAt}
-use Rattle.lts.proofs.Below.{clash, either, and-fst, and-snd, length-listBelow}
+use Rattle.lts.proofs.Below.{clash, either, and-fst, and-snd}
 use Rattle.rows.proofs.Rows.{rowOf-cong, states-in}
-use Rattle.sets.proofs.Lists.{set-in}
+use Rattle.sets.proofs.Lists.{set-in, set-long}
 use Rattle.partition.specs.Pending.{Ordered}
 use Rattle.partition.proofs.Laws.{states-none, states-skip, states-take, states-same}
 use borrow.Author.Needs.{needs}
@@ -36,7 +36,7 @@ module _ (n p : ℕ) (K : Rel) (ok : Ordered n K) (hp : p < 256) where
   found-first left q none e next = record {
     bound = next .below;
     members = none ∙ rowOf-cong 4 _ _ (λ x h. states-same (block K p) 0 q (omega arith) (λ y l u. apart y (omega (arith, u, next .below)) (next .none y l u)) x);
-    long = ap length e ∙ length-listBelow 4 _;
+    long = set-long _ e;
     member = next .member;
     above = λ y h t. sym (set-in (K p) e y h) ∙ t;
     gone = λ y l h t. apart y h t;
@@ -51,7 +51,7 @@ module _ (n p : ℕ) (K : Rel) (ok : Ordered n K) (hp : p < 256) where
   unfolding block
   found-in {out} {out′} {left} {q} {q′} f h back e next = record {
     bound = next .below;
-    members = e ∙ states-take 4 (block K p) q out (f .members) (ap₂ _&&_ (f .above q h (f .member h)) back)
+    members = e ∙ states-take (block K p) q out (f .members) (ap₂ _&&_ (f .above q h (f .member h)) back)
         ∙ rowOf-cong 4 _ _ (λ x l. states-same (block K p) (q + 1) q′ (next .above) (λ y l u. f .gone y (omega (arith, l)) (omega (arith, u, next .below)) (next .none y l u)) x);
     long = f .long;
     member = next .member;
@@ -65,9 +65,9 @@ module _ (n p : ℕ) (K : Rel) (ok : Ordered n K) (hp : p < 256) where
   unfolding block
   found-out {out} {left} {left′} {above} {q} {q′} f h back row e next = record {
     bound = next .below;
-    members = f .members ∙ states-skip 4 (block K p) q (ap₂ _&&_ (f .above q h (f .member h)) back)
+    members = f .members ∙ states-skip (block K p) q (ap₂ _&&_ (f .above q h (f .member h)) back)
         ∙ rowOf-cong 4 _ _ (λ x l. states-same (block K p) (q + 1) q′ (next .above) (λ y l u. out-of y (omega (arith, l)) (omega (arith, u, next .below)) (next .none y l u)) x);
-    long = ap length e ∙ length-listBelow 4 _;
+    long = set-long _ e;
     member = next .member;
     above = λ y u t. f .above y u (and-fst (inRow left y) (not (inRow above y)) (sym (at y u) ∙ t));
     gone = λ y l u t. out-of y (omega (arith, l, next .above)) u t;
@@ -117,7 +117,7 @@ contains-requires : tie.Need-contains-requires Inv-loop μ-loop
 contains-requires c κs = search needs
 
 size : (c : tie.At-loop Inv-loop μ-loop) → length (c .loop .out) ≡ 4
-size c = ap length (c .loop .inv .members) ∙ length-listBelow 4 _
+size c = set-long _ (c .loop .inv .members)
 
 slice-aggregate-insert : tie.Need-slice-aggregate-insert Inv-loop μ-loop
 slice-aggregate-insert c = sym (size (c .before .before .before .before .before .before))
@@ -129,7 +129,7 @@ minus-requires : tie.Need-minus-requires Inv-loop μ-loop
 minus-requires c κs = search needs
 
 left-long : (c : tie.Joined1 Inv-loop μ-loop) → length (c .if1 .left) ≡ 4
-left-long c = ⊎-elim (λ w. ap length (w .5) ∙ c .before .before .before .before .before .loop .inv .long) (λ w. ap length (w .3 ∙ w .1 .ensures) ∙ length-listBelow 4 _) (c .if1 .came)
+left-long c = ⊎-elim (λ w. ap length (w .5) ∙ c .before .before .before .before .before .loop .inv .long) (λ w. set-long _ (w .3 ∙ w .1 .ensures)) (c .if1 .came)
 
 slice-aggregate-next-state-2 : tie.Need-slice-aggregate-next-state-2 Inv-loop μ-loop
 slice-aggregate-next-state-2 c = sym (left-long (c .before))

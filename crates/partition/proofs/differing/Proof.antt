@@ -1,18 +1,18 @@
 -- `partition::differing` meets its contract: word by word. Assumes nothing.
-use mathlib.Core.Path.{_≡_, refl, sym, ap, ap₂, _∙_}
+use mathlib.Core.Path.{_≡_, refl, _∙_}
 use mathlib.Core.Bool.{_&&_}
 use mathlib.Core.List.{List, _++_}
-use Prim.Native.Nat.{ℕ, _+_, _-_, _*_, _≤_}
+use Prim.Native.Nat.{ℕ, _-_, _≤_}
 use native.Mathlib.Omega.{arith}
-use lib.ListN.{length, getD, drop, length-set, replicate}
+use lib.ListN.{length, drop, length-set, replicate}
 use denote.Ref.{now}
 use Rattle.lts.specs.Bounded.{listBelow}
 use Rattle.lts.specs.System.{Set}
-use Rattle.rows.specs.Rows.{bit, wordOf, inRow, wordAt, rowOf}
+use Rattle.rows.specs.Rows.{inRow, rowOf}
 use Rattle.sets.specs.Sets.{setAt}
 use Rattle.partition.proofs.Laws.{differs}
-use Rattle.rows.proofs.Bits.{wordOf-lt, bit-wordOf}
-use Rattle.rows.proofs.Rows.{inRow-at, word-at, row-store, row-done, row-whole}
+use Rattle.rows.proofs.Rows.{row-store, row-done, row-whole}
+use Rattle.sets.proofs.Keeping.{kept-word}
 use borrow.Author.Needs.{needs}
 use Rattle.partition.proofs.differing.Statement.{statement}
 use Rattle.partition.proofs.differing.Tie as tie
@@ -20,12 +20,6 @@ use Rattle.partition.proofs.differing.Tie as tie
 -- the members whose sets differ
 abbrev found : List ℕ → List ℕ → List ℕ → Set
 found a b members p = inRow members p && differs (setAt a) (setAt b) p
-
-word-found : (a b members : List ℕ) (c : ℕ) {x : ℕ} → x ≡ wordOf 64 (λ i. bit (getD members c 0) i && differs (setAt a) (setAt b) (64 * c + i)) → x ≡ wordAt (found a b members) c
-word-found a b members c e =
-    e ∙ word-at (found a b members) c (wordOf-lt 64 _) (λ i h.
-    let same : 64 * c + i ≡ c * 64 + i = omega arith in
-    bit-wordOf 64 (λ i. bit (getD members c 0) i && differs (setAt a) (setAt b) (64 * c + i)) i h ∙ ap₂ _&&_ (sym (inRow-at members c i h)) (ap (differs (setAt a) (setAt b)) same))
 
 abbrev Inv-loop : tie.InvT-loop
 Inv-loop a b members out₀ c₀ out c = (c ≤ 4) × (length out ≡ 4) × (out ≡ rowOf c (found a b members) ++ drop c (replicate {A = ℕ} 4 0))
@@ -60,10 +54,12 @@ loop-less c = search needs
 
 loop-again : tie.Need-loop-again Inv-loop μ-loop
 loop-again c =
-    let a = c .before .before .before .before .before .args in (
+    let a = c .before .before .before .before .before .args in
+    let at = c .before .before .loop in
+    let test = differs (setAt (now (a .a))) (setAt (now (a .b))) in (
       search needs,
       simp length-set (omega arith),
-      row-store _ _ _ (c .before .before .loop .c) (c .before .before .loop .inv .2) (c .before .loop-test .taken) (word-found (now (a .a)) (now (a .b)) (a .t3) (c .before .before .loop .c) (c .differing-word .ensures)),
+      row-store _ _ _ (at .c) (at .inv .2) (c .before .loop-test .taken) (kept-word (a .t3) test test (at .c) (c .differing-word .ensures) (λ i l. refl)),
     )
 
 returns : tie.Need-returns Inv-loop μ-loop

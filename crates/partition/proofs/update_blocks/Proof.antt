@@ -14,12 +14,12 @@ use Rattle.lts.specs.System.{Set, Rel}
 use Rattle.rows.specs.Rows.{inRow, rowOf, Next}
 use Rattle.sets.specs.Sets.{setAt}
 use Rattle.sets.specs.Parts.{Parted, Owned}
-use Rattle.lts.proofs.Below.{clash, either, bool-iff, and-fst, lowest-lt, lowest-at, lowest-agree, length-listBelow}
+use Rattle.lts.proofs.Below.{clash, either, bool-iff, and-fst, lowest-lt, lowest-at, lowest-agree}
 use Rattle.rows.proofs.Rows.{rowOf-cong, row-ext, inRow-written, length-written}
-use Rattle.sets.proofs.Lists.{set-in}
+use Rattle.sets.proofs.Lists.{set-in, set-long}
+use Rattle.sets.proofs.Sweep.{Swept, sweep-first, sweep-next, sweep-end}
 use Rattle.partition.specs.Pending.{pendingIn}
 use Rattle.partition.proofs.Laws.{differs}
-use Rattle.partition.proofs.Sweep.{Swept, sweep-first, sweep-next, sweep-end}
 use borrow.Author.Needs.{needs}
 use Rattle.partition.proofs.update_blocks.Statement.{statement}
 use Rattle.partition.proofs.update_blocks.Tie as tie
@@ -72,8 +72,7 @@ record Updated (P : Rel) (New : Set) (pending left : List ℕ) (p : ℕ) : Type 
   pub long : length pending ≡ 4
   pub words : pending ≡ rowOf 4 (inRow pending)
   pub owned : Owned P (inRow left)
-  pub member : p < 256 → inRow left p ≡ true
-  pub swept : Swept 256 (Right New pending) (inRow left) p
+  pub swept : Swept (Right New pending) (inRow left) p
 
 update-first : (P : Rel) (New : Set) {pending left : List ℕ} {p : ℕ} → length pending ≡ 4 → ((j : ℕ) → getD pending j 0 < 2 ^ 64) → Owned P (inRow left)
     → ((x : ℕ) → x < 256 → inRow left x ≡ false → inRow pending x ≡ New x) → Next (inRow left) 256 0 p → Updated P New pending left p
@@ -81,8 +80,7 @@ update-first P New {pending} {left} long fits owned same next = record {
   long = long;
   words = row-ext 4 (inRow pending) pending long fits (λ q h. refl);
   owned = owned;
-  member = next .member;
-  swept = sweep-first 256 (Right New pending) (inRow left) same next;
+  swept = sweep-first (Right New pending) (inRow left) same next;
 }
 
 -- the block of p goes out, and its lowest state comes in if its rows differ
@@ -100,17 +98,16 @@ module _ (K W P : Rel) (S : Set) (parted : Parted P S) (p : ℕ) (hp : p < 256) 
       → pending′ ≡ rowOf 4 (λ x. (differs W K (lowest 256 (inRow row)) && eqb x (lowest 256 (inRow row))) || inRow mid x)
       → left′ ≡ rowOf 4 (λ q. inRow left q && not (inRow row q)) → Next (inRow left′) 256 (p + 1) p′ → Updated P New pending left p → Updated P New pending′ left′ p′
   update-next {pending} {mid} {pending′} {left} {left′} minus put less next u = record {
-    long = ap length put ∙ length-listBelow 4 _;
+    long = set-long Put put;
     words = put ∙ rowOf-cong 4 _ _ (λ q h. sym (set-in Put put q h));
     owned = λ g h e. u .owned g h (and-fst (inRow left g) (not (P p g)) (sym (less-at g h) ∙ e));
-    member = next .member;
-    swept = sweep-next 256 P (Right New pending) (Right New pending′) (inRow left) (inRow left′) own less-at
+    swept = sweep-next P (Right New pending) (Right New pending′) (inRow left) (inRow left′) less-at
         (λ y h old. at y h ∙ ⊎-elim (λ (e : P p y ≡ true). ap (λ (b : Bool). cond b (New y) (inRow pending y)) e) (λ (e : P p y ≡ false). ap (λ (b : Bool). cond b (New y) (inRow pending y)) e ∙ old) (either (P p y)))
-        (λ y h e. at y h ∙ ap (λ (b : Bool). cond b (New y) (inRow pending y)) e) (u .swept) next;
+        (right p hp own) right (u .swept) next;
   }
     where
       own : P p p ≡ true
-      own = u .owned p hp (u .member hp)
+      own = u .owned p hp (u .swept .member hp)
 
       Put : Set
       Put x = (differs W K (lowest 256 (inRow row)) && eqb x (lowest 256 (inRow row))) || inRow mid x
@@ -128,8 +125,11 @@ module _ (K W P : Rel) (S : Set) (parted : Parted P S) (p : ℕ) (hp : p < 256) 
           set-in Put put x h ∙ ap (λ (b : Bool). (differs W K (lowest 256 (inRow row)) && eqb x (lowest 256 (inRow row))) || b) (mid-at x h)
           ∙ ap (λ (l : ℕ). (differs W K l && eqb x l) || (inRow pending x && not (P p x))) low-is ∙ block-updated p K W P S parted hp own (inRow pending) x h
 
+      right : (y : ℕ) → y < 256 → P p y ≡ true → inRow pending′ y ≡ New y
+      right y h e = at y h ∙ ap (λ (b : Bool). cond b (New y) (inRow pending y)) e
+
 update-end : (P : Rel) (New : Set) {pending left : List ℕ} {p : ℕ} → 256 ≤ p → Updated P New pending left p → pending ≡ rowOf 4 New
-update-end P New {pending} {left} {p} end u = u .words ∙ rowOf-cong 4 _ _ (λ q h. sweep-end 256 (Right New pending) (inRow left) p end (u .swept) q h)
+update-end P New {pending} {left} {p} end u = u .words ∙ rowOf-cong 4 _ _ (λ q h. sweep-end (Right New pending) (inRow left) p end (u .swept) q h)
 
 abbrev Inv-loop : tie.InvT-loop
 Inv-loop related viewed blocks pending₀ left₀ p₀ pending left p = Updated (setAt blocks) (pendingIn 256 (setAt related) (setAt viewed) (setAt blocks)) pending left p
@@ -163,12 +163,14 @@ update-block-requires : tie.Need-update-block-requires Inv-loop μ-loop
 update-block-requires c κs =
     let start = c .before .before .before .before .before .before .before .before .before .before .before .before .before .before .before in
     let a = start .args in
-    let inv = c .before .before .before .before .before .before .before .before .loop .inv in
+    let at = c .before .before .before .before .before .before .before .before .loop in
+    let inv = at .inv in
     let hp = c .before .before .before .before .before .before .before .loop-test .taken in (
       start .pre .0 .0,
       start .pre .0 .1,
-      ap length (c .before .before .before .row-minus .ensures) ∙ length-written 4 _ (c .before .before .before .before .before .before .before .before .loop .pending) (omega (arith, inv .long)) ∙ inv .long,
-      row-below (setAt (now (a .related))) (setAt (now (a .viewed))) (setAt (now (a .blocks))) (start .pre .1 .0 .0 .0) (start .pre .1 .0 .0 .1) (c .before .before .before .before .before .before .before .before .loop .p) hp (c .before .before .before .before .before .before .at .ensures) (inv .owned _ hp (inv .member hp)),
+      ap length (c .before .before .before .row-minus .ensures) ∙ length-written 4 _ (at .pending) (omega (arith, inv .long)) ∙ inv .long,
+      row-below (setAt (now (a .related))) (setAt (now (a .viewed))) (setAt (now (a .blocks))) (start .pre .1 .0 .0 .0) (start .pre .1 .0 .0 .1) (at .p) hp
+          (c .before .before .before .before .before .before .at .ensures) (inv .owned _ hp (inv .swept .member hp)),
     )
 
 minus-requires : tie.Need-minus-requires Inv-loop μ-loop

@@ -5,7 +5,7 @@ use Prim.Native.Nat.{_≤_}
 use native.Mathlib.Omega.{arith}
 use Rattle.lts.proofs.Count.{count-most}
 use Rattle.rows.specs.Rows.{inRow}
-use Rattle.refinement.proofs.Pending.{xor-none}
+use Rattle.sets.proofs.Lists.{same-sets}
 use borrow.Author.Needs.{needs}
 use Rattle.refinement.proofs.is_whole.Statement.{statement}
 use Rattle.refinement.proofs.is_whole.Tie as tie
@@ -32,7 +32,7 @@ row-count-requires-2 : tie.Need-row-count-requires-2
 row-count-requires-2 c κs = search needs
 
 returns-2 : tie.Need-returns-2
-returns-2 c = λ e q h. xor-none _ _ (sym (c .before .before .before .before .before .differ .ensures) ∙ c .before .before .before .before .if1 .left) q h
+returns-2 c = λ e q h. same-sets _ _ (sym (c .before .before .before .before .before .differ .ensures) ∙ c .before .before .before .before .if1 .left) q h
 
 pub is-whole-spec : {M : Type 1} → statement M
 is-whole-spec =

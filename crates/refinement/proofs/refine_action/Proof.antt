@@ -1,9 +1,8 @@
 -- `refinement::refine_action` meets its contract: Rem and the hits are those of the rule, and one action is `splitting::refine_by`. Assumes nothing.
 use mathlib.Core.Path.{sym, _∙_}
-use denote.Ref.{now}
-use Rattle.rows.specs.Rows.{inRow}
-use Rattle.sets.proofs.Lists.{set-in}
-use Rattle.refinement.proofs.Actions.{acted-cong, idle-acted, any-off, not-taken, hits-owned}
+use borrow.Author.Tests.{not-true}
+use Rattle.sets.proofs.Lists.{set-in, any-off}
+use Rattle.refinement.proofs.Actions.{acted-cong, idle-acted, hits-owned}
 use borrow.Author.Needs.{needs}
 use Rattle.refinement.proofs.refine_action.Statement.{statement}
 use Rattle.refinement.proofs.refine_action.Tie as tie
@@ -17,7 +16,7 @@ any-requires c κs = search needs
 returns : tie.Need-returns
 returns c =
     let start = c .before .before .before .before .before .before .before .before .before in
-    let none = any-off _ (sym (c .before .any .ensures) ∙ not-taken (c .before .any .result) (c .if1 .taken)) in (
+    let none = any-off 256 _ (sym (c .before .any .ensures) ∙ not-true _ (c .if1 .taken)) in (
       λ t ix most covers. idle-acted _ _ _ _ _ (start .pre .0) (start .pre .1) (λ j. c .before .before .before .before .before .before .slice-known .given j .fits) (λ j. c .before .before .before .before .before .slice-known2 .given j .fits)
           (λ q h. sym (set-in _ (c .before .before .removed .ensures t ix most covers) q h) ∙ none q h),
       start .pre .2,

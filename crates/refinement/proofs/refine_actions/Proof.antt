@@ -11,7 +11,7 @@ use Rattle.rows.specs.Rows.{inRow}
 use Rattle.sets.specs.Sets.{setAt}
 use Rattle.sets.proofs.Lists.{sets-long}
 use Rattle.refinement.specs.Engine.{Owning, Fixed, removedBy, hitsBy}
-use Rattle.refinement.proofs.Actions.{Going, going-begin, going-next, going-end, next-most, next-low}
+use Rattle.refinement.proofs.Actions.{Going, going-begin, going-next, going-end, next-most}
 use lib.Bits.{and-le-r}
 use lib.Count.{trailing-le}
 use borrow.Author.Needs.{needs}

@@ -1,19 +1,18 @@
 -- `refinement::run` meets its contract: each step is one of the run, and the set of the pending representatives is right at each test. Assumes nothing.
 use mathlib.Core.Path.{_≡_, sym, _∙_}
 use mathlib.Core.List.{List}
-use Prim.Native.Nat.{ℕ, _-_, _≤_, _<_}
+use Prim.Native.Nat.{ℕ, _-_}
 use native.Mathlib.Omega.{arith}
 use lib.Dec.{ltb}
 use lib.ListN.{length}
-use denote.Ref.{now}
 use Rattle.rows.specs.Rows.{rowOf}
 use Rattle.rows.proofs.Rows.{inRow-zeros}
 use Rattle.relation.specs.Matrix.{relationOf}
 use Rattle.transitions.specs.Table.{statesOf, tableLts}
-use Rattle.sets.proofs.Lists.{sets-long}
+use Rattle.sets.proofs.Lists.{set-long, sets-long}
 use Rattle.adjacency.specs.Adjacency.{Index}
 use Rattle.refinement.specs.Engine.{Start, State}
-use Rattle.refinement.proofs.Pending.{set-of-long, pending-kept, parted-minus}
+use Rattle.refinement.proofs.Pending.{pending-kept, parted-minus}
 use Rattle.refinement.proofs.Loop.{At, small-steps, parted-first, owned-first, pending-first, loop-below, loop-step, loop-next, end-steps, end-related, end-blocks, long-related, long-viewed, long-blocks}
 use borrow.Author.Needs.{needs}
 use Rattle.refinement.proofs.run.Statement.{statement}
@@ -49,7 +48,7 @@ update-pending-requires c κs =
 
 loop-holds : tie.Need-loop-holds Inv-loop μ-loop
 loop-holds c = (
-  set-of-long _ (c .before .update-pending .ensures),
+  set-long _ (c .before .update-pending .ensures),
   λ t start ix st all-is state. record {
     state = state;
     pending-is = c .before .update-pending .ensures;
@@ -121,7 +120,7 @@ loop-less c =
 
 loop-again : tie.Need-loop-again Inv-loop μ-loop
 loop-again c = (
-  set-of-long _ (c .before .update-pending2 .ensures),
+  set-long _ (c .before .update-pending2 .ensures),
   λ t start ix st all-is state.
       let at = c .before .before .before .before .before .before .before .before .before .before .before .before .before .before .before .before .before .before .before .before .before .before .before .before .before .loop .inv .1 t start ix st all-is state in
       let some = sym (c .before .before .before .before .before .before .before .before .before .before .before .before .before .before .before .before .before .before .before .before .before .before .before .any-pending .ensures) ∙ c .before .before .before .before .before .before .before .before .before .before .before .before .before .before .before .before .before .before .before .before .before .before .if1 .taken in

@@ -1,6 +1,6 @@
 -- `splitting::join_word` meets its contract: what the word had and is not left has its blocks in `out`. Assumes nothing.
-use mathlib.Core.Path.{_≡_, refl, sym, ap, _∙_, subst⁻¹}
-use mathlib.Core.Bool.{Bool, true, false, _&&_, _||_, or-true}
+use mathlib.Core.Path.{_≡_, sym, ap, _∙_, subst⁻¹}
+use mathlib.Core.Bool.{Bool, _&&_, _||_, or-true, or-assoc}
 use mathlib.Core.List.{List}
 use Prim.Native.Nat.{ℕ, _+_, _-_, _*_, _^_, _<_}
 use native.Mathlib.Omega.{arith}
@@ -19,8 +19,8 @@ use Rattle.sets.specs.Parts.{Parted}
 use Rattle.sets.proofs.Lists.{set-in}
 use Rattle.splitting.specs.Split.{Meets}
 use Rattle.splitting.proofs.Joining.{meets-cong, meets-add, meets-pass}
-use Rattle.splitting.proofs.Rewritten.{Part, part-all, part-drop, part-next, part-less, low-lt, window-in}
-use Rattle.splitting.proofs.Rewritten.{passed, passed-none, passed-all, passed-more, passed-drop}
+use Rattle.sets.proofs.Rewritten.{passed, passed-none, passed-all, passed-more, passed-drop, window-in}
+use Rattle.sets.proofs.Walks.{Part, part-all, part-drop, part-next, part-less, low-lt}
 use Rattle.splitting.proofs.join_word.Statement.{statement}
 use Rattle.splitting.proofs.join_word.Tie as tie
 
@@ -28,10 +28,6 @@ use Rattle.splitting.proofs.join_word.Tie as tie
 record Joining (P : Rel) (c word : ℕ) (from out : List ℕ) (left : ℕ) : Type 0 where
   pub part : Part word left
   pub meets : (W : Set) → Meets P W (inRow from) → Meets P (λ t. W t || passed c word left t) (inRow out)
-
-or-assoc : (a b c : Bool) → a || (b || c) ≡ (a || b) || c
-or-assoc true b c = refl
-or-assoc false b c = refl
 
 word-small : (S : Set) (c : ℕ) {a : List ℕ} → a ≡ rowOf 4 S → c < 4 → getD a c 0 < 2 ^ 64
 word-small S c e h = subst⁻¹ (λ (x : ℕ). x < 2 ^ 64) (ap (λ (l : List ℕ). getD l c 0) e ∙ getD-listBelow 0 4 (wordAt S) c h) (wordAt-lt S c)
@@ -52,11 +48,11 @@ module _ (P : Rel) (shared : Set) (parts : Parted P shared) (c word : ℕ) (hc :
   join-next out left {block} {out′} ne row union was = record {
     part = part-drop word less ((2 ^ 64 - 1) - getD block c 0) next;
     meets = λ W meets. meets-pass P shared parts (λ t. W t || passed c word less t) _ (λ t. window c word t && window c (getD block c 0) t) (inRow out′)
-        (λ t ht. ap (λ (b : Bool). W t || b) (passed-drop c word less (getD block c 0) t (next .small) (word-small (P g) c row hc)) ∙ or-assoc (W t) _ _)
+        (λ t ht. ap (λ (b : Bool). W t || b) (passed-drop c word less (getD block c 0) t (next .small) (word-small (P g) c row hc)) ∙ sym (or-assoc (W t) _ _))
         (λ t ht e. more t ht ∙ ap (λ (b : Bool). inRow out t || b) (sym (set-in (P g) row t ht) ∙ window-in block c t (and-snd (window c word t) _ e))
         ∙ or-true (inRow out t))
         (meets-add P shared parts (λ t. W t || passed c word left t) _ (inRow out) (inRow out′) g hg
-        (λ t ht. ap (λ (b : Bool). W t || b) (passed-more word left (was .part) ne c .join t ht) ∙ or-assoc (W t) _ _) more (was .meets W meets));
+        (λ t ht. ap (λ (b : Bool). W t || b) (passed-more word left (was .part) ne c .join t ht) ∙ sym (or-assoc (W t) _ _)) more (was .meets W meets));
   }
     where
       g : ℕ

@@ -8,7 +8,7 @@ use Rattle.rows.proofs.Rows.{inRow-zeros}
 use Rattle.sets.specs.Sets.{setAt}
 use Rattle.splitting.specs.Split.{Meets}
 use Rattle.splitting.proofs.Joining.{meets-cong, meets-none}
-use Rattle.splitting.proofs.Rewritten.{upto, upto-none, upto-all, upto-more}
+use Rattle.sets.proofs.Rewritten.{upto, upto-none, upto-all, upto-more}
 use Rattle.splitting.proofs.joined.Statement.{statement}
 use Rattle.splitting.proofs.joined.Tie as tie
 

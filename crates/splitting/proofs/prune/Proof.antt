@@ -1,54 +1,39 @@
 -- `splitting::prune` meets its contract: the rows of a word are as they were until its turn. Assumes nothing.
-use mathlib.Core.Path.{_≡_, refl, sym, ap, ap₂, _∙_, subst⁻¹}
-use mathlib.Core.Bool.{Bool, true, false, not, _&&_}
+use mathlib.Core.Path.{_≡_, refl, sym, ap, _∙_}
+use mathlib.Core.Bool.{Bool, true, false, not, _&&_, and-true}
 use mathlib.Core.List.{List, _++_}
 use mathlib.Core.Logic.{⊎-elim}
-use Prim.Native.Nat.{ℕ, _+_, _-_, _*_, _^_, _≤_, _<_}
+use Prim.Native.Nat.{ℕ, _+_, _-_, _*_, _≤_}
 use native.Mathlib.Omega.{arith}
-use lib.ListN.{getD, drop, replicate}
+use lib.ListN.{drop, replicate}
 use denote.Ref.{now}
 use borrow.Author.Needs.{needs}
 use Rattle.lts.specs.Bounded.{anyBelow, listBelow}
 use Rattle.lts.specs.System.{Set, Rel}
 use Rattle.lts.proofs.Below.{either, any-cong}
-use Rattle.rows.specs.Rows.{bit, wordOf, wordAt, inRow, rowOf}
-use Rattle.rows.proofs.Bits.{wordOf-lt, bit-wordOf}
-use Rattle.rows.proofs.Rows.{inRow-at, word-at, row-store, row-done, row-whole}
+use Rattle.rows.specs.Rows.{inRow, rowOf}
+use Rattle.rows.proofs.Rows.{row-store, row-done, row-whole}
 use Rattle.sets.specs.Sets.{setAt, setsOf}
 use Rattle.sets.proofs.Lists.{sets-cong}
+use Rattle.sets.proofs.Keeping.{kept-word}
 use Rattle.splitting.specs.Split.{without}
-use Rattle.splitting.proofs.Rewritten.{Rewritten, mixed, mixed-in, mixed-out, rewritten-long, rewritten-more, rewritten-old}
-use Rattle.splitting.proofs.Rewritten.{rewritten-none, rewritten-done, upto, upto-none, upto-out, upto-all, upto-more}
+use Rattle.sets.proofs.Rewritten.{Rewritten, mixed, mixed-in, mixed-out, rewritten-long, rewritten-more, rewritten-old}
+use Rattle.sets.proofs.Rewritten.{rewritten-none, rewritten-done, upto, upto-none, upto-out, upto-all, upto-more}
 use Rattle.splitting.proofs.prune.Statement.{statement}
 use Rattle.splitting.proofs.prune.Tie as tie
 
--- the rows of `rows` that have a state of Rem
+-- the rows that have a state of Rem, and those of `rows` that have one
+abbrev meets : Rel → Set → Set
+meets K Rem g = anyBelow 256 (λ h. K g h && Rem h)
+
 abbrev Changed : Rel → Set → Set → Set
-Changed K Rem rows g = rows g && anyBelow 256 (λ h. K g h && Rem h)
-
--- the word of the rows that change: the rows of word c are still as they were
-changed-word : (Old New : Rel) (Rem : Set) (rows related : List ℕ) (c : ℕ) {r : ℕ} → c < 4 → Rewritten (upto rows c) New Old related
-    → r ≡ wordOf 64 (λ i. bit (getD rows c 0) i && anyBelow 256 (λ h. setAt related (64 * c + i) h && Rem h)) → r ≡ wordAt (Changed Old Rem (inRow rows)) c
-changed-word Old New Rem rows related c {r} hc was e = word-at (Changed Old Rem (inRow rows)) c (subst⁻¹ (λ (x : ℕ). x < 2 ^ 64) e (wordOf-lt 64 _)) at
-  where
-    same : (i : ℕ) → 64 * c + i ≡ c * 64 + i
-    same i = omega arith
-
-    at : (i : ℕ) → i < 64 → bit r i ≡ inRow rows (c * 64 + i) && anyBelow 256 (λ h. Old (c * 64 + i) h && Rem h)
-    at i l =
-        ap (λ (x : ℕ). bit x i) e ∙ bit-wordOf 64 _ i l
-        ∙ ap₂ _&&_ (sym (inRow-at rows c i l)) (any-cong 256 _ _ (λ h hh. ap (λ (b : Bool). b && Rem h)
-        (rewritten-old was (64 * c + i) h (omega (arith, hc, l)) hh (upto-out rows c (64 * c + i) (omega (arith, l))) ∙ ap (λ (t : ℕ). Old t h) (same i))))
+Changed K Rem rows g = rows g && meets K Rem g
 
 without-whole : (K : Rel) (Rem rows : Set) → setsOf 256 (mixed rows (λ t h. K t h && not (Rem h)) K) ≡ setsOf 256 (without rows Rem K)
 without-whole K Rem rows = sets-cong 256 _ _ (λ g h hg hh.
     ⊎-elim (λ (e : rows g ≡ true). mixed-in rows (λ t h. K t h && not (Rem h)) K g h e ∙ sym (ap (λ (b : Bool). K g h && not (b && Rem h)) e))
     (λ (e : rows g ≡ false). mixed-out rows (λ t h. K t h && not (Rem h)) K g h e
-    ∙ sym (ap (λ (b : Bool). K g h && not (b && Rem h)) e ∙ whole (K g h))) (either (rows g)))
-  where
-    whole : (b : Bool) → b && true ≡ b
-    whole true = refl
-    whole false = refl
+    ∙ sym (ap (λ (b : Bool). K g h && not (b && Rem h)) e ∙ and-true (K g h))) (either (rows g)))
 
 unfilled : (S : Set) (d : List ℕ) → d ≡ rowOf 0 S ++ drop 0 d
 unfolding listBelow
@@ -106,7 +91,9 @@ loop-again c =
       rewritten-more (λ t h. K t h && not (Rem h)) (upto-more (a .t3) (at .c)) (at .inv .1)
           (λ t h ht hh e. ap (λ (b : Bool). b && not (Rem h)) (rewritten-old (at .inv .1) t h ht hh e)) (c .before .before .prune-word .ensures .0),
       row-store (Changed K₀ Rem (inRow (a .t3))) (replicate {A = ℕ} 4 0) (at .out) (at .c) (at .inv .2) (omega (arith, room))
-          (changed-word K₀ _ Rem (a .t3) (at .related) (at .c) room (at .inv .1) (c .before .before .prune-word .ensures .1)),
+          (kept-word (a .t3) (meets K₀ Rem) (meets K Rem) (at .c) (c .before .before .prune-word .ensures .1) (λ i l.
+          any-cong 256 _ _ (λ h hh. ap (λ (b : Bool). b && Rem h)
+          (rewritten-old (at .inv .1) (64 * at .c + i) h (omega (arith, room, l)) hh (upto-out (a .t3) (at .c) (64 * at .c + i) (omega (arith, l))))))),
     )
 
 same-length : tie.Need-same-length Inv-loop μ-loop

@@ -7,7 +7,7 @@ use Rattle.lts.proofs.Below.{any-cong}
 use Rattle.rows.specs.Rows.{inRow}
 use Rattle.sets.specs.Sets.{setAt}
 use Rattle.sets.proofs.Lists.{set-in}
-use Rattle.splitting.proofs.Rewritten.{written}
+use Rattle.sets.proofs.Rewritten.{written}
 use Rattle.splitting.proofs.prune_at.Statement.{statement}
 use Rattle.splitting.proofs.prune_at.Tie as tie
 

@@ -10,8 +10,8 @@ use borrow.Author.Tests.{not-true}
 use Rattle.rows.specs.Rows.{inRow}
 use Rattle.rows.proofs.Rows.{getD-zeros, inRow-zeros, row-ext}
 use Rattle.sets.specs.Sets.{setAt}
-use Rattle.sets.proofs.Lists.{sets-cong, sets-ext}
-use Rattle.splitting.proofs.Joining.{meets-none, no-member}
+use Rattle.sets.proofs.Lists.{any-off, sets-cong, sets-ext}
+use Rattle.splitting.proofs.Joining.{meets-none}
 use Rattle.splitting.proofs.prune_hits.Statement.{statement}
 use Rattle.splitting.proofs.prune_hits.Tie as tie
 
@@ -26,7 +26,7 @@ returns c =
     let K = setAt (now (a .related)) in
     record {
       hit = λ g. false;
-      meets = meets-none (setAt (now (a .blocks))) (inRow (a .hits)) (λ g. false) (no-member _ (sym any-is ∙ not-true _ (c .if1 .taken))) (λ t ht. refl);
+      meets = meets-none (setAt (now (a .blocks))) (inRow (a .hits)) (λ g. false) (any-off 256 _ (sym any-is ∙ not-true _ (c .if1 .taken))) (λ t ht. refl);
       pruned = sets-ext 256 _ (start .pre .0) (λ j. c .before .before .before .slice-known .given j .fits)
           ∙ sets-cong 256 _ _ (λ g h hg hh. sym (and-true (K g h)));
       reported = row-ext 4 _ (replicate 4 0) refl (λ j. subst⁻¹ (λ (x : ℕ). x < 2 ^ 64) (getD-zeros 4 j) (pow-pos 64)) (λ q h. inRow-zeros 4 q);

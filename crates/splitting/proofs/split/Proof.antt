@@ -11,8 +11,8 @@ use Rattle.rows.specs.Rows.{inRow}
 use Rattle.sets.specs.Sets.{setAt, setsOf}
 use Rattle.sets.proofs.Lists.{sets-cong}
 use Rattle.splitting.specs.Split.{splitRelated, splitBlocks, Unsplit}
-use Rattle.splitting.proofs.Rewritten.{Rewritten, mixed, mixed-in, mixed-out, rewritten-long, rewritten-more}
-use Rattle.splitting.proofs.Rewritten.{rewritten-old, rewritten-none, rewritten-done, upto, upto-none, upto-all, upto-more}
+use Rattle.sets.proofs.Rewritten.{Rewritten, mixed, mixed-in, mixed-out, rewritten-long, rewritten-more}
+use Rattle.sets.proofs.Rewritten.{rewritten-old, rewritten-none, rewritten-done, upto, upto-none, upto-all, upto-more}
 use Rattle.splitting.proofs.Touched.{related-row, blocks-row, related-unsplit, blocks-unsplit}
 use Rattle.splitting.proofs.split.Statement.{statement}
 use Rattle.splitting.proofs.split.Tie as tie

@@ -4,8 +4,7 @@ use denote.Ref.{now}
 use borrow.Author.Needs.{needs}
 use Rattle.rows.specs.Rows.{inRow}
 use Rattle.sets.specs.Sets.{setAt}
-use Rattle.sets.proofs.Lists.{sets-cong, sets-ext}
-use Rattle.splitting.proofs.Joining.{no-member}
+use Rattle.sets.proofs.Lists.{any-off, sets-cong, sets-ext}
 use Rattle.splitting.proofs.Touched.{related-unsplit, blocks-unsplit}
 use Rattle.splitting.proofs.split_any.Statement.{statement}
 use Rattle.splitting.proofs.split_any.Tie as tie
@@ -29,7 +28,7 @@ returns-2 : tie.Need-returns-2
 returns-2 c =
     let start = c .before .before .before .before in
     let any-is = c .before .any .ensures in
-    let off = no-member _ (sym any-is ∙ c .if1 .left) in
+    let off = any-off 256 _ (sym any-is ∙ c .if1 .left) in
     let a = start .args in
     let Rem = inRow (a .rem) in
     let K = setAt (now (a .related)) in

@@ -7,7 +7,7 @@ use Rattle.rows.specs.Rows.{inRow}
 use Rattle.sets.specs.Sets.{setAt}
 use Rattle.sets.proofs.Lists.{set-in}
 use Rattle.splitting.specs.Split.{splitRelated, splitBlocks}
-use Rattle.splitting.proofs.Rewritten.{written, unwritten}
+use Rattle.sets.proofs.Rewritten.{written, unwritten}
 use Rattle.splitting.proofs.Touched.{related-inside, related-outside, blocks-inside, blocks-outside}
 use Rattle.splitting.proofs.split_at.Statement.{statement}
 use Rattle.splitting.proofs.split_at.Tie as tie

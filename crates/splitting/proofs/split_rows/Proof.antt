@@ -5,8 +5,8 @@ use borrow.Author.Needs.{needs}
 use borrow.Author.Tests.{not-true}
 use Rattle.rows.specs.Rows.{inRow}
 use Rattle.sets.specs.Sets.{setAt}
-use Rattle.sets.proofs.Lists.{set-in}
-use Rattle.splitting.proofs.Joining.{meets-none, whole-unsplit, same-sets, no-member}
+use Rattle.sets.proofs.Lists.{set-in, any-off, same-sets}
+use Rattle.splitting.proofs.Joining.{meets-none, whole-unsplit}
 use Rattle.splitting.proofs.split_rows.Statement.{statement}
 use Rattle.splitting.proofs.split_rows.Tie as tie
 
@@ -21,7 +21,7 @@ returns c =
     let start = c .before .before .before .before in
     let meet-is = c .before .before .meet .ensures in
     let any-is = c .before .any .ensures in
-    let off = no-member _ (sym any-is ∙ not-true _ (c .if1 .taken)) in
+    let off = any-off 256 _ (sym any-is ∙ not-true _ (c .if1 .taken)) in
     let a = start .args in
     let P = setAt (now (a .blocks)) in
     whole-unsplit P (inRow (a .shared)) (start .pre .1) (inRow (a .rem)) _ _ _ (set-in _ meet-is) (meets-none P _ _ off off) (λ g hg. refl)

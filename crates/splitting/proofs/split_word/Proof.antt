@@ -9,8 +9,9 @@ use Rattle.rows.specs.Rows.{inRow}
 use Rattle.sets.specs.Sets.{setAt, window}
 use Rattle.splitting.specs.Split.{splitRelated, splitBlocks}
 use Rattle.splitting.proofs.Touched.{related-row, blocks-row}
-use Rattle.splitting.proofs.Rewritten.{Rewritten, rewritten-long, rewritten-more, rewritten-old, rewritten-none, rewritten-done, Part}
-use Rattle.splitting.proofs.Rewritten.{part-all, part-next, part-less, low-lt, passed, passed-none, passed-all, passed-more}
+use Rattle.sets.proofs.Rewritten.{Rewritten, rewritten-long, rewritten-more, rewritten-old, rewritten-none, rewritten-done}
+use Rattle.sets.proofs.Rewritten.{passed, passed-none, passed-all, passed-more}
+use Rattle.sets.proofs.Walks.{Part, part-all, part-next, part-less, low-lt}
 use Rattle.splitting.proofs.split_word.Statement.{statement}
 use Rattle.splitting.proofs.split_word.Tie as tie
 
@@ -76,11 +77,11 @@ loop-again c =
     let P = setAt (at .blocks) in
     let K₀ = setAt (now (a .related)) in
     let P₀ = setAt (now (a .blocks)) in
-    let grown = passed-more (a .word) (at .left) (at .inv .0) some (a .c) in (
+    let enlarged = passed-more (a .word) (at .left) (at .inv .0) some (a .c) in (
       part-next (a .word) (at .left) (at .inv .0) some,
-      rewritten-more (splitRelated Rem K P) grown (at .inv .1)
+      rewritten-more (splitRelated Rem K P) enlarged (at .inv .1)
           (λ t h ht hh e. related-row Rem K P K₀ P₀ t h (rewritten-old (at .inv .1) t h ht hh e) (rewritten-old (at .inv .2) t h ht hh e)) (split-at-is .0),
-      rewritten-more (splitBlocks Rem P) grown (at .inv .2)
+      rewritten-more (splitBlocks Rem P) enlarged (at .inv .2)
           (λ t h ht hh e. blocks-row Rem P P₀ t h (rewritten-old (at .inv .2) t h ht hh e)) (split-at-is .1),
     )
 

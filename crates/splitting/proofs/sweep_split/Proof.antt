@@ -14,7 +14,7 @@ use Rattle.sets.specs.Sets.{setAt}
 use Rattle.sets.specs.Parts.{Parted}
 use Rattle.sets.proofs.Lists.{set-in}
 use Rattle.splitting.specs.Split.{Unsplit}
-use Rattle.splitting.proofs.Sweep.{Swept, sweep-first, sweep-next, sweep-end}
+use Rattle.sets.proofs.Sweep.{Swept, sweep-first, sweep-next, sweep-end}
 use Rattle.splitting.proofs.sweep_split.Statement.{statement}
 use Rattle.splitting.proofs.sweep_split.Tie as tie
 

@@ -1,25 +1,24 @@
--- A list of sets in which some sets are rewritten, a set or a word of sets at a time. Assumes nothing.
-use mathlib.Core.Path.{_≡_, refl, sym, ap, ap₂, _∙_, subst⁻¹}
-use mathlib.Core.Bool.{Bool, true, false, cond, not, _&&_, _||_, and-true, and-false, true≢false}
+-- A list of sets in which some sets are rewritten: a set, the sets of a word, or the sets of a set at a time. Assumes nothing.
+use mathlib.Core.Path.{_≡_, refl, sym, ap, ap₂, _∙_}
+use mathlib.Core.Bool.{Bool, true, false, cond, not, _&&_, _||_, and-true, and-not-self, or-false, true≢false}
 use mathlib.Core.List.{List}
 use mathlib.Core.Logic.{⊎-elim}
 use Prim.Native.Nat.{ℕ, _+_, _-_, _*_, _/_, _%_, _^_, _≤_, _<_}
-use native.Mathlib.Nat.{mod-lt, zero-mul}
+use native.Mathlib.Nat.{mod-lt}
 use native.Mathlib.Omega.{arith}
-use lib.Bits.{bitAnd, bitOr, and-le-l, and-le-r, or-lt}
+use lib.Bits.{bitAnd}
 use lib.Count.{trailingZeros}
 use lib.Dec.{eqb, ltb}
 use lib.ListN.{length, getD}
 use borrow.Author.Tests.{eq-eqb, eqb-true, lt-ltb, le-ltb}
 use Rattle.lts.specs.System.{Set, Rel}
 use Rattle.lts.proofs.Below.{clash, either, bool-iff, lt-or-ge, and-fst, and-snd}
-use Rattle.rows.specs.Rows.{bit, wordOf, inRow, rowOf}
-use Rattle.rows.proofs.Bits.{bit-of-zero, bit-and, bit-or, bit-pow, bit-wordOf, wordOf-lt, word-ext, one-shl}
-use Rattle.rows.proofs.Counts.{trailing-lt, trailing-at}
+use Rattle.rows.specs.Rows.{bit, inRow, rowOf}
+use Rattle.rows.proofs.Bits.{bit-of-zero}
 use Rattle.rows.proofs.Rows.{minus-bitwise}
 use Rattle.sets.specs.Sets.{setAt, setsOf, updated, window}
 use Rattle.sets.proofs.Lists.{sets-in, sets-cong, sets-long, sets-ext, put-sets}
-use Rattle.sets.proofs.Walks.{drop-lowest}
+use Rattle.sets.proofs.Walks.{Part, low-lt, low-in, drop-lowest}
 
 -- the rows of New at W, and those of Old elsewhere
 abbrev pub mixed : Set → Rel → Rel → Rel
@@ -51,7 +50,7 @@ mixed-more W U W′ New New′ Old R t h join apart was new =
         ∙ sym (ap₂ (λ (a b : Bool). cond (a || b) (New t h) (Old t h)) e f)
 
 -- W′ is W and, apart from it, U
-pub record Grown (W U W′ : Set) : Type 0 where
+pub record Enlarged (W U W′ : Set) : Type 0 where
   pub join : (t : ℕ) → t < 256 → W′ t ≡ W t || U t
   pub apart : (t : ℕ) → t < 256 → U t ≡ true → W t ≡ false
 
@@ -62,11 +61,11 @@ pub record Rewritten (W : Set) (New Old : Rel) (g : List ℕ) : Type 0 where
 pub rewritten-long : {W : Set} {New Old : Rel} {g : List ℕ} → Rewritten W New Old g → length g ≡ 1024
 rewritten-long {W} {New} {Old} was = sets-long 256 (mixed W New Old) (was .is)
 
-pub rewritten-more : {W U W′ : Set} {New Old : Rel} {g g′ : List ℕ} (New′ : Rel) → Grown W U W′ → Rewritten W New Old g
+pub rewritten-more : {W U W′ : Set} {New Old : Rel} {g g′ : List ℕ} (New′ : Rel) → Enlarged W U W′ → Rewritten W New Old g
     → ((t h : ℕ) → t < 256 → h < 256 → W t ≡ false → New′ t h ≡ New t h) → g′ ≡ setsOf 256 (mixed U New′ (setAt g)) → Rewritten W′ New Old g′
-rewritten-more {W} {U} {W′} {New} {Old} {g} New′ grown was new e = record {
+rewritten-more {W} {U} {W′} {New} {Old} {g} New′ enlarged was new e = record {
   is = e ∙ sets-cong 256 _ _ (λ t h ht hh.
-      mixed-more W U W′ New New′ Old (setAt g) t h (grown .join t ht) (grown .apart t ht) (sets-in 256 (mixed W New Old) (was .is) t h ht hh) (new t h ht hh));
+      mixed-more W U W′ New New′ Old (setAt g) t h (enlarged .join t ht) (enlarged .apart t ht) (sets-in 256 (mixed W New Old) (was .is) t h ht hh) (new t h ht hh));
 }
 
 -- a row outside W is as it was
@@ -118,41 +117,19 @@ unwritten p g New long words new = sets-ext 256 g long words ∙ sets-cong 256 _
 abbrev pub passed : ℕ → ℕ → ℕ → Set
 passed c word left t = window c word t && not (window c left t)
 
--- `left` is a part of the word
-pub record Part (word left : ℕ) : Type 0 where
-  pub small : left < 2 ^ 64
-  pub within : (j : ℕ) → j < 64 → bit left j ≡ true → bit word j ≡ true
-
-pub part-all : (word : ℕ) → word < 2 ^ 64 → Part word word
-part-all word h = record { small = h; within = λ j l e. e }
-
 pub passed-none : (c word t : ℕ) → passed c word word t ≡ false
-passed-none c word t = go (window c word t)
-  where
-    go : (b : Bool) → b && not b ≡ false
-    go true = refl
-    go false = refl
+passed-none c word t = and-not-self (window c word t)
 
 pub passed-all : (c word left t : ℕ) → left ≡ 0 → passed c word left t ≡ window c word t
 unfolding window
 passed-all c word left t e =
-    ap (λ (b : Bool). window c word t && not b) (off (eqb (t / 64) c)) ∙ whole (window c word t)
+    ap (λ (b : Bool). window c word t && not b) (off (eqb (t / 64) c)) ∙ and-true (window c word t)
   where
     off : (b : Bool) → cond b (bit left (t % 64)) false ≡ false
     off true = ap (λ (x : ℕ). bit x (t % 64)) e ∙ bit-of-zero (t % 64)
     off false = refl
 
-    whole : (b : Bool) → b && true ≡ b
-    whole true = refl
-    whole false = refl
-
 -- bits leave without a walk: what is passed then
-pub part-drop : (word left mask : ℕ) → Part word left → Part word (bitAnd left mask)
-part-drop word left mask part = record {
-  small = omega (arith, and-le-l left mask, part .small);
-  within = λ j l e. part .within j l (and-fst (bit left j) (bit mask j) (sym (bit-and left mask j) ∙ e));
-}
-
 pub passed-drop : (c word left x t : ℕ) → left < 2 ^ 64 → x < 2 ^ 64
     → passed c word (bitAnd left ((2 ^ 64 - 1) - x)) t ≡ passed c word left t || (window c word t && window c x t)
 unfolding window
@@ -183,33 +160,18 @@ module _ (word left : ℕ) (part : Part word left) (ne : left ≡ 0 → ⊥) whe
   abbrev less : ℕ
   less = bitAnd left (left - 1)
 
-  pub low-lt : low < 64
-  low-lt = trailing-lt 64 left (part .small) ne
-
-  pub low-in : bit left low ≡ true
-  low-in = trailing-at 64 left low-lt
-
-  pub part-less : less < left
-  part-less = omega (arith, and-le-r left (left - 1), ne′)
-    where
-      ne′ : 0 < left
-      ne′ = ⊎-elim (λ (l : 0 < left). l) (λ (l : left ≤ 0). absurd (ne (omega (arith, l)))) (lt-or-ge 0 left)
-
-  pub part-next : Part word less
-  part-next = record {
-    small = omega (arith, part-less, part .small);
-    within = λ j l e. part .within j l (and-fst (bit left j) (not (eqb j low)) (sym (drop-lowest left (part .small) ne j) ∙ e));
-  }
-
   -- what is passed then: the state of the lowest bit too
-  pub passed-more : (c : ℕ) → Grown (passed c word left) (λ t. eqb t (64 * c + low)) (passed c word less)
+  pub passed-more : (c : ℕ) → Enlarged (passed c word left) (λ t. eqb t (64 * c + low)) (passed c word less)
   unfolding window
   passed-more c = record { join = join; apart = apart }
     where
+      below : low < 64
+      below = low-lt word left part ne
+
       same : (t : ℕ) → eqb t (64 * c + low) ≡ eqb (t / 64) c && eqb (t % 64) low
       same t = bool-iff
           (λ e. let k : t ≡ 64 * c + low = eqb-true t (64 * c + low) e in
-          ap₂ _&&_ (eq-eqb (t / 64) c (omega (arith, k, low-lt))) (eq-eqb (t % 64) low (omega (arith, k, low-lt))))
+          ap₂ _&&_ (eq-eqb (t / 64) c (omega (arith, k, below))) (eq-eqb (t % 64) low (omega (arith, k, below))))
           (λ e. let k = eqb-true (t / 64) c (and-fst (eqb (t / 64) c) (eqb (t % 64) low) e) in
           let m = eqb-true (t % 64) low (and-snd (eqb (t / 64) c) (eqb (t % 64) low) e) in
           eq-eqb t (64 * c + low) (omega (arith, k, m)))
@@ -227,7 +189,7 @@ module _ (word left : ℕ) (part : Part word left) (ne : left ≡ 0 → ⊥) whe
       cases true false false false s m = refl
 
       is-low : (j : ℕ) → eqb j low ≡ true → bit left j ≡ true
-      is-low j e = ap (bit left) (eqb-true j low e) ∙ low-in
+      is-low j e = ap (bit left) (eqb-true j low e) ∙ low-in word left part ne
 
       join : (t : ℕ) → t < 256 → passed c word less t ≡ passed c word left t || eqb t (64 * c + low)
       join t ht =
@@ -246,55 +208,6 @@ module _ (word left : ℕ) (part : Part word left) (ne : left ≡ 0 → ⊥) whe
           none true true false e m = absurd (true≢false (sym m))
           none false w l e m = absurd (true≢false (sym e))
 
-  -- the bits of what is passed that pass a test
-  pub word-more : (A : Set) {out d : ℕ} → out ≡ wordOf 64 (λ i. (bit word i && not (bit left i)) && A i) → d ≡ cond (A low) 1 0
-      → bitOr out (d * 2 ^ low % 2 ^ 64) ≡ wordOf 64 (λ i. (bit word i && not (bit less i)) && A i)
-  word-more A {out} {d} was e = word-ext 64 _ (or-lt 64 _ _ small (mod-lt (d * 2 ^ low) (omega arith))) at
-    where
-      small : out < 2 ^ 64
-      small = subst⁻¹ (λ (x : ℕ). x < 2 ^ 64) was (wordOf-lt 64 _)
-
-      new : (a : Bool) → A low ≡ a → (j : ℕ) → bit (d * 2 ^ low % 2 ^ 64) j ≡ eqb j low && a
-      new true r j =
-          ap (λ (x : ℕ). bit (x * 2 ^ low % 2 ^ 64) j) (e ∙ ap (λ (b : Bool). cond b 1 0) r)
-          ∙ ap (λ (x : ℕ). bit x j) (one-shl low low-lt) ∙ bit-pow low j ∙ sym (and-true (eqb j low))
-      new false r j =
-          ap (λ (x : ℕ). bit (x * 2 ^ low % 2 ^ 64) j) (e ∙ ap (λ (b : Bool). cond b 1 0) r)
-          ∙ ap (λ (x : ℕ). bit (x % 2 ^ 64) j) (zero-mul (2 ^ low)) ∙ bit-of-zero j
-          ∙ sym (and-false (eqb j low))
-
-      -- by the tests: the word's bit, the bit of what is left, whether it is the lowest, and the test there and at the lowest
-      cases : (w l e a a₀ : Bool) → (l ≡ true → w ≡ true) → (e ≡ true → l ≡ true) → (e ≡ true → a ≡ a₀)
-          → ((w && not l) && a) || (e && a₀) ≡ (w && not (l && not e)) && a
-      cases true true true a a₀ s m q = sym (q refl)
-      cases true true false a a₀ s m q = refl
-      cases true false true a a₀ s m q = absurd (true≢false (sym (m refl)))
-      cases true false false true a₀ s m q = refl
-      cases true false false false a₀ s m q = refl
-      cases false true e a a₀ s m q = absurd (true≢false (sym (s refl)))
-      cases false false true a a₀ s m q = absurd (true≢false (sym (m refl)))
-      cases false false false a a₀ s m q = refl
-
-      at : (j : ℕ) → j < 64 → bit (bitOr out (d * 2 ^ low % 2 ^ 64)) j ≡ (bit word j && not (bit less j)) && A j
-      at j l =
-          bit-or out (d * 2 ^ low % 2 ^ 64) j
-          ∙ ap₂ _||_ (ap (λ (x : ℕ). bit x j) was ∙ bit-wordOf 64 _ j l) (new (A low) refl j)
-          ∙ cases (bit word j) (bit left j) (eqb j low) (A j) (A low) (part .within j l)
-          (λ e. ap (bit left) (eqb-true j low e) ∙ low-in) (λ e. ap A (eqb-true j low e))
-          ∙ sym (ap (λ (b : Bool). (bit word j && not b) && A j) (drop-lowest left (part .small) ne j))
-
-pub word-none : (word : ℕ) (A : Set) → 0 ≡ wordOf 64 (λ i. (bit word i && not (bit word i)) && A i)
-word-none word A = word-ext 64 _ (omega arith) (λ i l. bit-of-zero i ∙ sym (ap (λ (b : Bool). b && A i) (go (bit word i))))
-  where
-    go : (b : Bool) → b && not b ≡ false
-    go true = refl
-    go false = refl
-
-pub word-all : (word left : ℕ) (A : Set) → left ≡ 0 → wordOf 64 (λ i. (bit word i && not (bit left i)) && A i) ≡ wordOf 64 (λ i. bit word i && A i)
-word-all word left A e =
-    word-ext 64 _ (wordOf-lt 64 _) (λ i l. bit-wordOf 64 _ i l
-    ∙ ap (λ (b : Bool). (bit word i && not b) && A i) (ap (λ (x : ℕ). bit x i) e ∙ bit-of-zero i) ∙ ap (λ (b : Bool). b && A i) (and-true (bit word i)))
-
 -- ---- the states of a set, a word at a time
 
 -- the states of the first c words
@@ -310,7 +223,7 @@ upto-none rows c t e = ap (λ (b : Bool). b && inRow rows t) (le-ltb (t / 64) c 
 pub upto-all : (rows : List ℕ) (c t : ℕ) → 4 ≤ c → t < 256 → upto rows c t ≡ inRow rows t
 upto-all rows c t e h = ap (λ (b : Bool). b && inRow rows t) (lt-ltb (t / 64) c (omega (arith, e, h)))
 
-pub upto-more : (rows : List ℕ) (c : ℕ) → Grown (upto rows c) (window c (getD rows c 0)) (upto rows (c + 1))
+pub upto-more : (rows : List ℕ) (c : ℕ) → Enlarged (upto rows c) (window c (getD rows c 0)) (upto rows (c + 1))
 unfolding window inRow
 upto-more rows c = record { join = join; apart = apart }
   where
@@ -324,7 +237,7 @@ upto-more rows c = record { join = join; apart = apart }
         (λ (e : eqb (t / 64) c ≡ false).
         ⊎-elim
         (λ (l : t / 64 < c). ap (λ (b : Bool). b && inRow rows t) (lt-ltb (t / 64) (c + 1) (omega (arith, l)))
-        ∙ or-off (inRow rows t)
+        ∙ sym (or-false (inRow rows t))
         ∙ sym (ap₂ (λ (a b : Bool). (a && inRow rows t) || cond b (bit (getD rows c 0) (t % 64)) false) (lt-ltb (t / 64) c l) e))
         (λ (l : c ≤ t / 64).
         let far : c + 1 ≤ t / 64 = beyond (t / 64) e l in
@@ -333,10 +246,6 @@ upto-more rows c = record { join = join; apart = apart }
         (lt-or-ge (t / 64) c))
         (either (eqb (t / 64) c))
       where
-        or-off : (b : Bool) → b ≡ b || false
-        or-off true = refl
-        or-off false = refl
-
         beyond : (i : ℕ) → eqb i c ≡ false → c ≤ i → c + 1 ≤ i
         beyond i e l = ⊎-elim (λ (m : c < i). omega (arith, m)) (λ (m : i ≤ c). absurd (clash (eq-eqb i c (omega (arith, l, m))) e)) (lt-or-ge c i)
 
