@@ -320,7 +320,7 @@ fn refine_large(
     )
 }
 
-// The run on a table of at most 2 actions and 32 transitions: small arrays are cleared sooner.
+// The run on a table of at most 2 actions and 16 transitions: small arrays are cleared sooner.
 fn refine_small(
     table: &transitions::Table,
     start: &[u64],
@@ -328,7 +328,7 @@ fn refine_small(
     related: &mut [u64],
     blocks: &mut [u64],
 ) -> usize
-    requires { ⌜ Formed (now table) × Start (statesOf (now table)) (now start) × (actionsOf (now table) ≤ 2) × (countOf (now table) ≤ 32) ⌝ }
+    requires { ⌜ Formed (now table) × Start (statesOf (now table)) (now start) × (actionsOf (now table) ≤ 2) × (countOf (now table) ≤ 16) ⌝ }
     requires { ⌜ (let words = statesOf (now table) * rowWords (statesOf (now table)) in
         (length (now related) ≡ words) × (length (now blocks) ≡ words)) ⌝ }
     ensures { λ r. ⌜ (let t = now (table .entry) in
@@ -337,7 +337,36 @@ fn refine_small(
         × (now (blocks .exit) ≡ matrixOf (statesOf t) (block (run .final .related)))) ⌝ }
 {
     let mut places = [0u16; 1536];
-    let mut rows = [0u64; 532];
+    let mut rows = [0u64; 404];
+    refine_in(
+        table,
+        start,
+        schedule,
+        related,
+        blocks,
+        &mut places,
+        &mut rows,
+    )
+}
+
+// The same for at most 8 actions and 128 transitions.
+fn refine_medium(
+    table: &transitions::Table,
+    start: &[u64],
+    schedule: &[u16],
+    related: &mut [u64],
+    blocks: &mut [u64],
+) -> usize
+    requires { ⌜ Formed (now table) × Start (statesOf (now table)) (now start) × (actionsOf (now table) ≤ 8) × (countOf (now table) ≤ 128) ⌝ }
+    requires { ⌜ (let words = statesOf (now table) * rowWords (statesOf (now table)) in
+        (length (now related) ≡ words) × (length (now blocks) ≡ words)) ⌝ }
+    ensures { λ r. ⌜ (let t = now (table .entry) in
+        let run = coarsest (tableLts t) (relationOf (statesOf t) (now (start .entry))) (now (schedule .entry)) in
+        (r ≡ run .steps) × (now (related .exit) ≡ matrixOf (statesOf t) (run .final .related))
+        × (now (blocks .exit) ≡ matrixOf (statesOf t) (block (run .final .related)))) ⌝ }
+{
+    let mut places = [0u16; 4608];
+    let mut rows = [0u64; 1348];
     refine_in(
         table,
         start,
@@ -369,8 +398,13 @@ pub fn refine_all(
         let run = coarsest (tableLts t) (relationOf (statesOf t) (now (start .entry))) (now (schedule .entry)) in
         now (blocks .exit) ≡ matrixOf (statesOf t) (block (run .final .related))) ⌝ }
 {
-    if (transitions::actions(table) <= 2) & (transitions::count(table) <= 32) {
+    let m = transitions::actions(table);
+    let k = transitions::count(table);
+    if (m <= 2) & (k <= 16) {
         return refine_small(table, start, schedule, related, blocks);
+    }
+    if (m <= 8) & (k <= 128) {
+        return refine_medium(table, start, schedule, related, blocks);
     }
     refine_large(table, start, schedule, related, blocks)
 }

@@ -17,7 +17,7 @@ refine-in-requires : tie.Need-refine-in-requires
 refine-in-requires c κs =
     let p = c .before .before .before .before .before .before .before .before .pre in
     let ok = p .0 .0 in
-    ((ok, p .0 .1), (p .1, ((omega (arith, length-replicate {A = ℕ} 1536 0, p .0 .2), omega (arith, length-replicate {A = ℕ} 532 0, p .0 .2, p .0 .3)), (getD-zeros 1536, getD-zeros 532))))
+    ((ok, p .0 .1), (p .1, ((omega (arith, length-replicate {A = ℕ} 1536 0, p .0 .2), omega (arith, length-replicate {A = ℕ} 404 0, p .0 .2, p .0 .3)), (getD-zeros 1536, getD-zeros 404))))
 
 same-length : tie.Need-same-length
 same-length c = search needs
