@@ -15,7 +15,7 @@ import re
 import sys
 
 # lemmas that would get a definition's name, and the parts of lemmas' names that cite a word of the library that has another name now
-FIRST = {"labels_length": "labels_length_lem"}
+FIRST = {"labels_length": "labels_length_lem", "row_words": "row_words_lem"}
 PARTS = {"getD": "get_or"}
 
 WORD = re.compile(r"(?<![\w'\-.])[A-Za-z_][\w']*(?:-[\w'\-]*[\w'])?|(?<=\.)[A-Za-z_][\w']*(?:-[\w'\-]*[\w'])?")
@@ -56,7 +56,7 @@ def main(top):
 
         def turn(m):
             w = m.group(0)
-            if w in first and "proofs." not in old[max(0, m.start() - 40) : m.start()].split("{")[-1].split(" ")[-1]:
+            if w in first and old[m.start() - 1 : m.start()] != "." and old[m.end() : m.end() + 1] != ".":
                 return first[w]
             return table.get(w, w)
 

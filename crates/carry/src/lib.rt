@@ -1,4 +1,6 @@
 // Words and 16-bit lists carried as bytes, low byte first.
+#![tactic(auto)]
+
 ghost use Rattle.std.specs.Prelude.{◌≡◌, ◌+◌, ◌*◌, ◌/◌, ◌^◌, ◌<◌, ◌≤◌, cond, ◌++◌, ltb, length, take, drop};
 ghost use Rattle.carry.specs.Carried.{number_of, digits, loaded, stored};
 ghost use Rattle.carry.specs.Bytes.{Room, LoadedFrom, LoadedSchedule};

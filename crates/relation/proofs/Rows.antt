@@ -28,8 +28,8 @@ copied-row n p g row d {w} e small ok hp long zero at =
 
 -- ---- a row of a matrix, as a part that starts at its first word, and a set that it is put together with
 
-pub row_words : (n : ℕ) {p w : ℕ} (g : List ℕ) {row : List ℕ} → w ≡ row_words n → row ≡ drop (p * row_words n) g → p < n → Matrix n g → w ≤ length row
-row_words n {p} g width e hp ok = omega (arith, width, ap length e, row-long n {p = p} g hp ok.long)
+pub row_words_lem : (n : ℕ) {p w : ℕ} (g : List ℕ) {row : List ℕ} → w ≡ row_words n → row ≡ drop (p * row_words n) g → p < n → Matrix n g → w ≤ length row
+row_words_lem n {p} g width e hp ok = omega (arith, width, ap length e, row-long n {p = p} g hp ok.long)
 
 pub zipped-row : (n p : ℕ) (g : List ℕ) (β : Bool → Bool → Bool) (d : List ℕ) {row d' : List ℕ} {w : ℕ} → w ≡ row_words n → row ≡ drop (p * row_words n) g
     → d' ≡ row_of w (λ q. β (in_row d q) (in_row row q)) ++ drop w d → (q : ℕ) → q < n → in_row d' q ≡ β (in_row d q) (relation_of n g p q)

@@ -1,4 +1,6 @@
 // Relations on states as bit matrices over 64-bit words (document 01, "Grids").
+#![tactic(auto)]
+
 ghost use Rattle.std.specs.Prelude.{◌≡◌, true, false, cond, ◌&&◌, ℕ, ◌+◌, ◌*◌, ◌/◌, ◌<◌, ◌≤◌, length, drop};
 ghost use Rattle.lts.specs.Bounded.{◌⇒◌};
 ghost use Rattle.lts.specs.Rule.{check};

@@ -1,4 +1,6 @@
 // Lines of text and decimal numbers, written into a lent buffer.
+#![tactic(auto)]
+
 ghost use Rattle.std.specs.Prelude.{◌≡◌, ◌+◌, ◌<◌, ◌≤◌, length};
 ghost use Rattle.report.specs.Decimal.{decimal, written};
 

@@ -1,4 +1,6 @@
 // Sets of states as rows of 64-bit words (document 01, "Grids"): a set in the first words of a slice.
+#![tactic(auto)]
+
 ghost use Rattle.std.specs.Prelude.{◌≡◌, not, ◌&&◌, ◌||◌, ◌++◌, ◌*◌, ◌/◌, ◌<◌, ◌≤◌, eqb, ltb, length, drop};
 ghost use Rattle.std.specs.Bool.{xor};
 ghost use Rattle.lts.specs.Bounded.{any_below, count_below, lowest};

@@ -11,7 +11,7 @@ use Rattle.lts.specs.Bounded.{sum_below, count_below, lowest}
 use Rattle.relation.specs.Matrix.{relation_of}
 use Rattle.lts.proofs.Below.{sum-none, sum_more, sum_done}
 use Rattle.partition.proofs.Laws.{row-lowest-test}
-use Rattle.relation.proofs.Rows.{row_words}
+use Rattle.relation.proofs.Rows.{row_words_lem}
 use borrow.Author.Rules.{rules}
 use Rattle.partition.proofs.count_blocks.Statement.{statement}
 use Rattle.partition.proofs.count_blocks.Tie as tie
@@ -38,7 +38,7 @@ row-at-requires c κs = search rules
 lowest-state-requires : tie.Need-lowest-state-requires invariant-loop decreases-loop
 lowest-state-requires c κs =
     let start = c.before.before.before.before.before in
-    (row_words start.args.n start.args.blocks.now c.before.before.before.row_words.ensures c.row_at.ensures c.before.loop-test.true start.requires.1, search rules)
+    (row_words_lem start.args.n start.args.blocks.now c.before.before.before.row_words.ensures c.row_at.ensures c.before.loop-test.true start.requires.1, search rules)
 
 -- the test at p
 test : (c : tie.After-lowest-state invariant-loop decreases-loop)

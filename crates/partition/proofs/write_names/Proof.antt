@@ -10,7 +10,7 @@ use Rattle.relation.specs.Matrix.{relation_of}
 use Rattle.lts.proofs.Below.{fill_more, lowest-lt}
 use Rattle.relation.proofs.Checks.{row-lowest}
 use Rattle.partition.proofs.Laws.{fill_done}
-use Rattle.relation.proofs.Rows.{row_words}
+use Rattle.relation.proofs.Rows.{row_words_lem}
 use borrow.Author.Rules.{rules}
 use Rattle.partition.proofs.write_names.Statement.{statement}
 use Rattle.partition.proofs.write_names.Tie as tie
@@ -34,7 +34,7 @@ row-at-requires c κs = search rules
 lowest-state-requires : tie.Need-lowest-state-requires invariant-loop decreases-loop
 lowest-state-requires c κs =
     let start = c.before.before.before.before.before.before in
-    (row_words start.args.n start.args.blocks.now c.before.before.before.row_words.ensures c.row_at.ensures c.before.loop-test.true start.requires.1, search rules)
+    (row_words_lem start.args.n start.args.blocks.now c.before.before.before.row_words.ensures c.row_at.ensures c.before.loop-test.true start.requires.1, search rules)
 
 -- the name of p
 module _ (c : tie.After-lowest-state invariant-loop decreases-loop) where

@@ -1,0 +1,15 @@
+use Prim.Native.Nat.{◌+◌, ◌-◌, ◌^◌, ◌<◌, ◌≤◌}
+use mathlib.Core.Path.{◌≡◌}
+use native.Mathlib.Omega.{arith}
+use borrow.Author.Rules.{rules}
+use lib.Dec.{lit<}
+use lib.Seq.{slice}
+use Rattle.carry.specs.Carried.{number_of}
+use Rattle.carry.proofs.Laws.{number-start, number-down, number-done, number_fits, bound-start, bound-down}
+use Rattle.carry.proofs.read_number.Given as goal
+
+abbrev pub invariant-loop-j : goal.invariant-loop-j
+invariant-loop-j l = (l.at ≤ l.j) × (l.j ≤ l.end) × (l.x ≡ number_of (slice l.j l.end l.bytes)) × (l.x < 256 ^ (l.end - l.j))
+
+abbrev pub decreases-loop-j : goal.decreases-loop-j
+decreases-loop-j l = l.j

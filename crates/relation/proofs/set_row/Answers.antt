@@ -1,0 +1,35 @@
+-- `relation::set_row` meets its contract: by `row_written`. Assumes nothing.
+use Prim.Native.Nat.{◌≤◌, ◌+◌, ◌*◌}
+use native.Mathlib.Omega.{arith}
+use lib.ListN.{length, length-drop}
+use Rattle.rows.specs.Rows.{in_row}
+use Rattle.relation.proofs.Matrices.{row_fits, row_written}
+use Rattle.rows.proofs.Rows.{tail-part}
+use borrow.Author.Rules.{rules}
+use Rattle.relation.proofs.set_row.Goals.{After-row_words-w}
+use Rattle.relation.proofs.set_row.Goals as goal
+
+-- row p lies within the matrix
+room : (c : After-row_words-w) → c.args.p * c.row_words-w.result + c.row_words-w.result ≤ length c.args.grid.now
+room c = row_fits c.args.n c.args.grid.now c.row_words-w.ensures c.requires.2 c.requires.0.long
+
+pub overflow_mul-at : goal.overflow_mul-at
+overflow_mul-at c = omega (arith, room c)
+
+pub offset_bounds-grid-at : goal.offset_bounds-grid-at
+offset_bounds-grid-at c = omega (arith, room c)
+
+pub slice_bounds-row_copy-count : goal.slice_bounds-row_copy-count
+slice_bounds-row_copy-count c = omega (arith, room c)
+
+-- UNMATCHED slice-bounds-row-copy-start
+-- part-row-copy-start : tie.Need-slice-bounds-row-copy-start
+-- part-row-copy-start c = omega (arith, room c)
+
+pub row_copy-requires : goal.row_copy-requires
+row_copy-requires c = (simp (tail-part, length-drop) (omega (arith, room (goal.at.row_copy-requires c).After-row_words-w)), omega (arith, c.row_words-w.ensures, c.requires.3.long))
+
+pub returns : goal.returns
+returns c =
+    row_written c.args.n c.args.p c.args.grid.now (in_row c.args.row.now) c.requires.0 (λ j. (c.slice_known-1.given j).fits) c.requires.2 c.requires.3.clear
+    c.row_words-w.ensures c.row_copy.new.row c.row_copy.ensures

@@ -1,0 +1,19 @@
+use mathlib.Core.Path.{◌≡◌, sym, ◌∙◌}
+use mathlib.Core.Bool.{true}
+use Prim.Native.Nat.{ℕ, ◌*◌, ◌≤◌, ◌<◌, ◌-◌}
+use native.Mathlib.Omega.{arith}
+use borrow.Author.Count.{below_none, below_more}
+use borrow.Author.Tests.{not-true, not-false}
+use Rattle.rows.specs.Rows.{in_row}
+use Rattle.relation.specs.Matrix.{relation_of}
+use Rattle.relation.specs.Check.{transitive_pair, transitive_at}
+use Rattle.lts.proofs.Below.{all_yes, all-not}
+use Rattle.relation.proofs.Transitivity.{left-skip, left-next}
+use borrow.Author.Rules.{rules}
+use Rattle.relation.proofs.transitive_rest.Given as goal
+
+abbrev pub invariant-loop-q : goal.invariant-loop-q
+invariant-loop-q l = (l.q ≤ l.w * 64) × (l.q < l.n → in_row l.left l.q ≡ true) × ((t : ℕ) → t < l.q → t < l.n → transitive_pair l.n (relation_of l.n l.grid) l.p t ≡ true)
+
+abbrev pub decreases-loop-q : goal.decreases-loop-q
+decreases-loop-q l = l.w * 64 - l.q

@@ -1,0 +1,16 @@
+use mathlib.Core.Path.{◌≡◌, sym}
+use mathlib.Core.List.{◌++◌}
+use Prim.Native.Nat.{◌≤◌, ◌-◌}
+use native.Mathlib.Omega.{arith}
+use lib.ListN.{length, drop, length-set}
+use Rattle.lts.specs.Bounded.{list_below}
+use Rattle.rows.specs.Rows.{in_row, row_of}
+use Rattle.rows.proofs.Rows.{in_row-at, row_more, row_done}
+use borrow.Author.Rules.{rules}
+use Rattle.rows.proofs.row_copy.Given as goal
+
+abbrev pub invariant-loop-c : goal.invariant-loop-c
+invariant-loop-c l = (l.c ≤ l.k) × (length l.row ≡ length l.initial.row) × (l.row ≡ row_of l.c (in_row l.from) ++ drop l.c l.initial.row)
+
+abbrev pub decreases-loop-c : goal.decreases-loop-c
+decreases-loop-c l = l.k - l.c

@@ -1,0 +1,17 @@
+use borrow.Author.Rules.{rules}
+use mathlib.Core.Path.{◌≡◌}
+use mathlib.Core.Bool.{not, ◌&&◌}
+use mathlib.Core.List.{◌++◌}
+use Prim.Native.Nat.{◌≤◌, ◌-◌}
+use native.Mathlib.Omega.{arith}
+use lib.ListN.{length, drop, length-set}
+use Rattle.rows.specs.Rows.{in_row, row_of}
+use Rattle.lts.specs.Bounded.{list_below}
+use Rattle.rows.proofs.Rows.{zip_more, minus-bitwise, row_done}
+use Rattle.rows.proofs.row_minus.Given as goal
+
+abbrev pub invariant-loop-c : goal.invariant-loop-c
+invariant-loop-c l = (l.c ≤ l.k) × (length l.row ≡ length l.initial.row) × (l.row ≡ row_of l.c (λ q. in_row l.initial.row q && not (in_row l.mask q)) ++ drop l.c l.initial.row)
+
+abbrev pub decreases-loop-c : goal.decreases-loop-c
+decreases-loop-c l = l.k - l.c

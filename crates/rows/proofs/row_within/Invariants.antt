@@ -1,0 +1,16 @@
+use Rattle.rows.proofs.Rows.{minus-bitwise}
+use mathlib.Core.Bool.{false, not, ◌&&◌}
+use mathlib.Core.Path.{◌≡◌, ap, ◌∙◌}
+use Prim.Native.Nat.{ℕ, ◌≤◌, ◌<◌, ◌*◌, ◌-◌}
+use native.Mathlib.Nat.{not-suc-le-zero}
+use native.Mathlib.Omega.{arith}
+use Rattle.rows.specs.Rows.{in_row}
+use Rattle.rows.proofs.Tests.{word-found, word-passed, none_passed, included-any}
+use borrow.Author.Rules.{rules}
+use Rattle.rows.proofs.row_within.Given as goal
+
+abbrev pub invariant-loop-c : goal.invariant-loop-c
+invariant-loop-c l = (l.c ≤ l.k) × ((q : ℕ) → q < l.c * 64 → in_row l.a q && not (in_row l.b q) ≡ false)
+
+abbrev pub decreases-loop-c : goal.decreases-loop-c
+decreases-loop-c l = l.k - l.c
