@@ -10,7 +10,7 @@ ghost use Rattle.coarsest.specs.declared.Answer.TheVariants.{Done};
 ghost use Rattle.coarsest.specs.Call.{coarsest_reply, refined, coarsest_call, CoarsestPromise};
 
 // The steps made, the pairs kept and the blocks.
-#[derive(Drop)]
+#[derive(Clone, Copy)]
 pub struct Counts {
     pub steps: usize,
     pub pairs: usize,
@@ -18,7 +18,7 @@ pub struct Counts {
 }
 
 // What coarsest answers.
-#[derive(Drop)]
+#[derive(Clone, Copy)]
 pub enum Answer {
     Done(Counts),
     Refused(lts::Refusal),

@@ -14,7 +14,7 @@ ghost use Rattle.comparison.specs.Run.{pair_reply};
 ghost use Rattle.comparison.specs.Call.{compare_reply, compare_call, Relates, ComparePromise, CompareReadyPromise};
 
 // What compare answers: yes or no, with the steps made.
-#[derive(Drop)]
+#[derive(Clone, Copy)]
 pub enum Compared {
     Yes(usize),
     No(usize),

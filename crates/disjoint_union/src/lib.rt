@@ -6,7 +6,7 @@ ghost use Rattle.inputs.specs.Both.{Joinable};
 ghost use Rattle.disjoint_union.specs.Join.{join_reply, joined_labelling, join_call, JoinPromise};
 
 // What join answers: the length of the sheet that it wrote.
-#[derive(Drop)]
+#[derive(Clone, Copy)]
 pub enum Joined {
     Written(usize),
     Refused(lts::Refusal),

@@ -10,7 +10,7 @@ ghost use Rattle.encoding.specs.Labels.{visible, follows, label_fits, decimal_la
 ghost use Rattle.encoding.specs.Encoding.{in_range, state_fits, transition_fits};
 ghost use Rattle.encoding.specs.Checked.{Bounds, Sized, Recorded, FirstKnown, TransitionKnown};
 
-#[derive(Drop)]
+#[derive(Clone, Copy)]
 pub struct Header {
     pub states: usize,
     pub actions: usize,
@@ -20,12 +20,12 @@ pub struct Header {
 }
 
 // An action's name, and zeros behind it.
-#[derive(Drop)]
+#[derive(Clone, Copy)]
 pub struct LabelRecord {
     pub bytes: [u8; 16],
 }
 
-#[derive(Drop)]
+#[derive(Clone, Copy)]
 pub struct StateRecord {
     // The end mark.
     pub mark: u8,
@@ -33,7 +33,7 @@ pub struct StateRecord {
     pub first: usize,
 }
 
-#[derive(Drop)]
+#[derive(Clone, Copy)]
 pub struct TransitionRecord {
     pub action: u8,
     pub spare: u8,
@@ -41,7 +41,7 @@ pub struct TransitionRecord {
     pub next: usize,
 }
 
-#[derive(Drop)]
+#[derive(Clone, Copy)]
 pub enum Reading {
     Readable(Header),
     Refused(lts::Refusal),

@@ -9,7 +9,7 @@ ghost use Rattle.game.specs.Memo.{wins, Playable, Right};
 ghost use Rattle.game.specs.Play.{play_reply, play_call, PlayPromise};
 
 // What hand play answers.
-#[derive(Drop)]
+#[derive(Clone, Copy)]
 pub enum Played {
     Won,
     NotWon,

@@ -50,7 +50,7 @@ pub fn read_pair(s: &[u8], start: &[u64], p: usize, q: usize) -> encoding::Readi
 }
 
 // What reading two sheets answers: their headers, and the number of joined labels.
-#[derive(Drop)]
+#[derive(Clone, Copy)]
 pub enum Both {
     Readable(encoding::Header, encoding::Header, usize),
     Refused(lts::Refusal),

@@ -14,7 +14,7 @@ ghost use Rattle.splitting.specs.Split.{Acted};
 ghost use Rattle.refinement.specs.Engine.{Turning, Fixed, Owning, Done, Stepping, Made, State, Start};
 
 // What a step fixes at its beginning: B, Y and N, the actions to go through (bit a - 1 for action a), and whether Y and N have every state and Y few.
-#[derive(Drop)]
+#[derive(Clone, Copy)]
 pub struct Turn {
     pub members: [u64; 4],
     pub inside: [u64; 4],

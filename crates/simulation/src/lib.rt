@@ -12,7 +12,7 @@ ghost use Rattle.simulation.specs.Calls.{write_start_call, EndStart, ReadyStart,
 ghost use Rattle.simulation.specs.Calls.{is_inside, simulation_reply, simulation_call, SimulationPromise};
 
 // What testing a simulation answers.
-#[derive(Drop)]
+#[derive(Clone, Copy)]
 pub enum Tested {
     Yes,
     No,

@@ -12,14 +12,14 @@ ghost use Rattle.strategy.specs.Steps.{LastPair, write_on};
 ghost use Rattle.strategy.specs.Within.{entry_count, number_count, WrittenWithin};
 
 // What the check of a strategy answers: the last entry's pair and its depth.
-#[derive(Drop)]
+#[derive(Clone, Copy)]
 pub enum Verdict {
     Last(usize, usize, usize),
     Refused(lts::Refusal),
 }
 
 // The pair of the last whole entry.
-#[derive(Drop)]
+#[derive(Clone, Copy)]
 struct Pair {
     first: usize,
     second: usize,
@@ -65,7 +65,7 @@ pub fn check_strategy(s: &[u8], start: &[u64], numbers: &[u16]) -> Verdict
 }
 
 // What writing a strategy answers: the number of its entries.
-#[derive(Drop)]
+#[derive(Clone, Copy)]
 pub enum Written {
     Entries(usize),
     Refused(lts::Refusal),

@@ -64,7 +64,7 @@ pub fn same_rows(n: usize, before: &[u64], after: &[u64]) -> [u64; 4]
 }
 
 // The round at which a pair falls, n * n + 1 where it falls at none, and the number of entries of its strategy.
-#[derive(Drop)]
+#[derive(Clone, Copy)]
 pub struct Refutation {
     pub round: usize,
     pub count: usize,
