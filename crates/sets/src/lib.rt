@@ -1,4 +1,6 @@
 // Sets of 256 states as four words by value, and lists of such sets: set p of a list is in its words 4 * p to 4 * p + 3.
+#![tactic(auto)]
+
 ghost use Rattle.std.specs.Prelude.{◌≡◌, Bool, true, false, cond, not, ◌&&◌, ◌||◌, ℕ, ◌+◌, ◌*◌, ◌/◌, ◌%◌, ◌<◌, ◌≤◌, eqb, length, get_or};
 ghost use Rattle.std.specs.Bool.{xor};
 ghost use Rattle.lts.specs.Bounded.{any_below, passing, restrict};

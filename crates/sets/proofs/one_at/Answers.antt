@@ -16,14 +16,9 @@ use Rattle.lts.proofs.Lists.{passing-none, passing-more}
 use Rattle.rows.proofs.Rows.{next_place}
 use Rattle.sets.proofs.Walks.{Rest, Stepped, rest-begin, rest-next, rest_end}
 use borrow.Author.Rules.{rules}
-use Rattle.sets.proofs.one_at.Statement.{statement}
-use Rattle.sets.proofs.one_at.Tie as tie
-
--- the lowest i ones of the word are dropped, and the others are left
-record Dropped (word i left : ℕ) : Type 0 where
-  pub from : ℕ
-  pub rest : Rest word from left
-  pub count : length (passing from (bit word)) ≡ i
+use Rattle.sets.proofs.one_at.Goals.{In-loop-i}
+use Rattle.sets.proofs.one_at.Invariants.{Dropped}
+use Rattle.sets.proofs.one_at.Goals as goal
 
 drop-begin : (word : ℕ) → word < 2 ^ 64 → Dropped word 0 word
 drop-begin word small = record { from = 0; rest = rest-begin word small; count = passing-none (bit word) }
@@ -57,41 +52,24 @@ module _ (word i left : ℕ) (s : Dropped word i left) (more : i < length (passi
 zeros-fit : (x : ℕ) → Fits w64 (count_trailing_zeros 64 x)
 zeros-fit x = omega (arith, trailing_le 64 x)
 
-abbrev invariant-loop : tie.invariant-loop
-invariant-loop word j left₀ i₀ left i = (i ≤ j) × Dropped word i left
-
-abbrev decreases-loop : tie.decreases-loop
-decreases-loop word j left₀ i₀ left i = j - i
-
-loop-holds : tie.Need-loop-init invariant-loop decreases-loop
-loop-holds c = (search rules, drop-begin _ (search rules))
+pub loop-i-init : goal.loop-i-init
+loop-i-init c = (search rules, drop-begin _ (search rules))
 
 -- in the loop the word has more ones than i
-more_left : (c : tie.In-loop invariant-loop decreases-loop) → c.before.loop.i < length (passing 64 (bit c.before.before.args.word))
-more_left c = omega (arith, c.loop-test.true, c.before.before.requires)
+more_left : (c : In-loop-i) → c.loop-i.i < length (passing 64 (bit c.args.word))
+more_left c = omega (arith, c.loop-i-test.true, c.requires)
 
-sub-left : tie.Need-overflow-sub-left invariant-loop decreases-loop
-sub-left c = let none = some _ _ _ c.before.loop.invariant.1 (more_left c) in omega (arith, none)
+pub overflow_sub-left : goal.overflow_sub-left
+overflow_sub-left c = let none = some _ _ _ c.loop-i.invariant.1 (more_left c) in omega (arith, none)
 
-add-i : tie.Need-overflow-add-i invariant-loop decreases-loop
-add-i c = search rules
+pub loop-i-preserved : goal.loop-i-preserved
+loop-i-preserved c = (search rules, drop-next _ _ _ c.loop-i.invariant.1 (more_left c))
 
-loop-less : tie.Need-loop-smaller invariant-loop decreases-loop
-loop-less c = search rules
+pub overflow_cast-result : goal.overflow_cast-result
+overflow_cast-result c = zeros-fit _
 
-loop-again : tie.Need-loop-preserved invariant-loop decreases-loop
-loop-again c = (search rules, drop-next _ _ _ c.before.loop.invariant.1 (more_left c))
-
-cast-result : tie.Need-overflow-cast-result invariant-loop decreases-loop
-cast-result c = zeros-fit _
-
-returns : tie.Need-returns invariant-loop decreases-loop
+pub returns : goal.returns
 returns c =
-    let end : c.before.loop.i ≡ c.before.before.args.j = omega (arith, c.before.loop.invariant.0, c.loop-test.false) in
-    let at = lowest-left _ _ _ c.before.loop.invariant.1 (omega (arith, end, c.before.before.requires)) in
+    let end : c.loop-i.i ≡ c.args.j = omega (arith, c.loop-i.invariant.0, c.loop-i-test.false) in
+    let at = lowest-left _ _ _ c.loop-i.invariant.1 (omega (arith, end, c.requires)) in
     (at.0, at.1, at.2 ∙ end)
-
-pub one-at-spec : {M : Type 1} → statement M
-one-at-spec =
-    tie.close
-    (tie.spec invariant-loop decreases-loop loop-holds sub-left add-i loop-less loop-again cast-result returns)

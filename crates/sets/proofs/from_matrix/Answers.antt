@@ -1,0 +1,30 @@
+-- `sets::from_matrix` meets its contract. Assumes nothing.
+use mathlib.Core.Path.{◌≡◌, sym, ◌∙◌}
+use Prim.Native.Nat.{◌-◌, ◌≤◌}
+use native.Mathlib.Omega.{arith}
+use Rattle.rows.specs.Rows.{states_below}
+use Rattle.relation.specs.Matrix.{relation_of}
+use Rattle.sets.specs.Sets.{sets_of}
+use Rattle.sets.proofs.Lists.{sets-long}
+use Rattle.sets.proofs.Matrices.{first_rows, rows_none, rows-put, rows_whole}
+use borrow.Author.Rules.{rules}
+use Rattle.sets.proofs.from_matrix.Goals as goal
+
+pub loop-p-init : goal.loop-p-init
+loop-p-init c = (search rules, c.requires.2 ∙ rows_none _)
+
+pub row_set-requires : goal.row_set-requires
+row_set-requires c = (c.requires.0, c.requires.1, search rules)
+
+pub put-requires : goal.put-requires
+put-requires c = omega (arith, sets-long 256 _ c.loop-p.invariant.1, c.loop-p-test.true, c.requires.0)
+
+pub loop-p-preserved : goal.loop-p-preserved
+loop-p-preserved c =
+    (search rules, rows-put _ c.loop-p.p c.loop-p.list _ c.loop-p.invariant.1 c.row_set.ensures c.put.ensures)
+
+pub shape_of-list : goal.shape_of-list
+shape_of-list c = sets-long 256 _ c.loop-p.invariant.1 ∙ sym (sets-long 256 _ c.requires.2)
+
+pub returns : goal.returns
+returns c = c.loop-p.invariant.1 ∙ rows_whole _ _ _ (search rules)
