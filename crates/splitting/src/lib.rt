@@ -1,4 +1,6 @@
 // One action of a refinement step on lists of sets (document 01, "Turns"): the split of the blocks by Rem, and the pairs that it refutes.
+#![tactic(auto)]
+
 ghost use Rattle.std.specs.Prelude.{◌≡◌, cond, not, ◌&&◌, ◌||◌, ◌+◌, ◌*◌, ◌<◌, ◌≤◌, eqb, length};
 ghost use Rattle.lts.specs.Bounded.{any_below};
 ghost use Rattle.lts.specs.System.{Set};

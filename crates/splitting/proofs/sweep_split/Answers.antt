@@ -14,12 +14,8 @@ use Rattle.sets.specs.Parts.{Parted}
 use Rattle.sets.proofs.Lists.{set-in}
 use Rattle.splitting.specs.Split.{Unsplit}
 use Rattle.sets.proofs.Sweep.{Swept, sweep-first, sweep-next, sweep-end}
-use Rattle.splitting.proofs.sweep_split.Statement.{statement}
-use Rattle.splitting.proofs.sweep_split.Tie as tie
-
--- the block of y is in `out`, if y is in L and some member is outside Rem
-abbrev Added : Rel → Set → Set → List ℕ → ℕ → Type 0
-Added P L Rem out y = L y ≡ true → (g h : ℕ) → g < 256 → h < 256 → P y g ≡ true → P y h ≡ true → Rem h ≡ false → in_row out g ≡ true
+use Rattle.splitting.proofs.sweep_split.Invariants.{Added}
+use Rattle.splitting.proofs.sweep_split.Goals as goal
 
 -- from `out` to `out'` the row of x was added, if some member is outside Rem
 record Extended (P : Rel) (Rem : Set) (x : ℕ) (out out' : List ℕ) : Type 0 where
@@ -81,82 +77,20 @@ module _ (P : Rel) (shared Rem : Set) (parts : Parted P shared) where
           go true e false d = absurd (clash (split h k k hh hk hk e d back back) outside)
           go false e true d = absurd (clash (split k h k hk hh hk d e p (parts.trans k h k hk hh hk p back)) outside)
 
-abbrev invariant-loop : tie.invariant-loop
-invariant-loop blocks rem out₀ left₀ x₀ out left x =
-    Swept (Added (set_at blocks) (in_row left₀) (in_row rem) out) (in_row left) x
+pub loop-x-init : goal.loop-x-init
+loop-x-init c = sweep-first _ _ (λ y h e l. absurd (clash l e)) c.next_state-x.ensures
 
-abbrev decreases-loop : tie.decreases-loop
-decreases-loop blocks rem out₀ left₀ x₀ out left x = 256 - x
+pub loop-x-preserved : goal.loop-x-preserved
+loop-x-preserved c =
+    let P = set_at c.args.blocks.now in
+    let parts = c.requires.1 in
+    let row = c.at-block.ensures in
+    gather-next P (in_row c.args.shared) (in_row c.args.rem) parts _ c.loop-x.out _ c.loop-x.left c.loop-x-test.true row
+    (extended P (in_row c.args.shared) (in_row c.args.rem) parts c.loop-x.out _ _ c.loop-x.x row c.with_split-next.ensures)
+    c.minus-rest.ensures c.next_state-x-in-loop-x.ensures c.loop-x.invariant
 
-meet-requires : tie.Need-meet-requires invariant-loop decreases-loop
-meet-requires c κs = search rules
-
-slice-aggregate-next-state : tie.Need-slice-aggregate-next-state invariant-loop decreases-loop
-slice-aggregate-next-state c = search rules
-
-next-state-requires : tie.Need-next-state-requires invariant-loop decreases-loop
-next-state-requires c κs = search rules
-
-loop-holds : tie.Need-loop-init invariant-loop decreases-loop
-loop-holds c = sweep-first _ _ (λ y h e l. absurd (clash l e)) c.next-state.ensures
-
-at-requires : tie.Need-at-requires invariant-loop decreases-loop
-at-requires c κs = search rules
-
-with-split-requires : tie.Need-with-split-requires invariant-loop decreases-loop
-with-split-requires c κs = search rules
-
-minus-requires : tie.Need-minus-requires invariant-loop decreases-loop
-minus-requires c κs = search rules
-
-slice-aggregate-next-state-2 : tie.Need-slice-aggregate-next-state-2 invariant-loop decreases-loop
-slice-aggregate-next-state-2 c = search rules
-
-add-next-state : tie.Need-overflow-add-next-state invariant-loop decreases-loop
-add-next-state c = search rules
-
-next-state-requires-2 : tie.Need-next-state-requires-2 invariant-loop decreases-loop
-next-state-requires-2 c κs = search rules
-
-loop-less : tie.Need-loop-smaller invariant-loop decreases-loop
-loop-less c = search rules
-
-loop-again : tie.Need-loop-preserved invariant-loop decreases-loop
-loop-again c =
-    let a = c.before.before.before.before.before.before.before.before.before.before.before.args in
-    let at = c.before.before.before.before.before.before.loop in
-    let P = set_at a.blocks.now in
-    let parts = c.before.before.before.before.before.before.before.before.before.before.before.requires.1 in
-    let row = c.before.before.before.before.at.ensures in
-    gather-next P (in_row a.shared) (in_row a.rem) parts _ at.out _ at.left c.before.before.before.before.before.loop-test.true row
-    (extended P (in_row a.shared) (in_row a.rem) parts at.out _ _ at.x row c.before.before.before.with-split.ensures)
-    c.before.before.minus.ensures c.next-state2.ensures at.invariant
-
-returns : tie.Need-returns invariant-loop decreases-loop
+pub returns : goal.returns
 returns c =
-    let start = c.before.before.before.before.before.before in
-    let meet-is = c.before.before.before.before.meet.ensures in
-    let end = c.loop-test.false in
-    let a = start.args in
-    let at = c.before.loop in
-    gather-end (set_at a.blocks.now) (in_row a.shared) (in_row a.rem) start.requires.1 _ at.out at.left (set-in _ meet-is) end at.invariant
-
-pub sweep-split-spec : {M : Type 1} → statement M
-sweep-split-spec =
-    tie.close
-    (tie.spec
-    invariant-loop
-    decreases-loop
-    meet-requires
-    slice-aggregate-next-state
-    next-state-requires
-    loop-holds
-    at-requires
-    with-split-requires
-    minus-requires
-    slice-aggregate-next-state-2
-    add-next-state
-    next-state-requires-2
-    loop-less
-    loop-again
-    returns)
+    let meet-is = c.meet-left.ensures in
+    let end = c.loop-x-test.false in
+    gather-end (set_at c.args.blocks.now) (in_row c.args.shared) (in_row c.args.rem) c.requires.1 _ c.loop-x.out c.loop-x.left (set-in _ meet-is) end c.loop-x.invariant

@@ -20,13 +20,9 @@ use Rattle.splitting.specs.Split.{Meets}
 use Rattle.splitting.proofs.Joining.{meets-cong, meets-add, meets-pass}
 use Rattle.sets.proofs.Rewritten.{passed, passed_none, passed-all, passed-more, passed-drop, window-in}
 use Rattle.sets.proofs.Walks.{Part, part-all, part-drop, part-next, part-less, low-lt}
-use Rattle.splitting.proofs.join_word.Statement.{statement}
-use Rattle.splitting.proofs.join_word.Tie as tie
-
--- `out` has the blocks of `from`, and of what the word had and is not left
-record Joining (P : Rel) (c word : ℕ) (from out : List ℕ) (left : ℕ) : Type 0 where
-  pub part : Part word left
-  pub meets : (W : Set) → Meets P W (in_row from) → Meets P (λ t. W t || passed c word left t) (in_row out)
+use Rattle.splitting.proofs.join_word.Goals.{In-loop-left}
+use Rattle.splitting.proofs.join_word.Invariants.{Joining}
+use Rattle.splitting.proofs.join_word.Goals as goal
 
 word_small : (S : Set) (c : ℕ) {a : List ℕ} → a ≡ row_of 4 S → c < 4 → get_or a c 0 < 2 ^ 64
 word_small S c e h = subst⁻¹ (λ (x : ℕ). x < 2 ^ 64) (ap (λ (l : List ℕ). get_or l c 0) e ∙ get_or-list_below 0 4 (word_at S) c h) (word_at-lt S c)
@@ -74,97 +70,40 @@ module _ (P : Rel) (shared : Set) (parts : Parted P shared) (c word : ℕ) (hc :
   join-end out left e was W meets =
       meets-cong P _ _ (in_row out) (λ t ht. ap (λ (b : Bool). W t || b) (passed-all c word left t e)) (was.meets W meets)
 
-abbrev invariant-loop : tie.invariant-loop
-invariant-loop blocks c word out₀ left₀ out left = Joining (set_at blocks) c word out₀ out left
+low : (c : In-loop-left) → count_trailing_zeros 64 c.loop-left.left < 64
+low c = low-lt _ _ c.loop-left.invariant.part c.loop-left-test.true
 
-abbrev decreases-loop : tie.decreases-loop
-decreases-loop blocks c word out₀ left₀ out left = left
+pub loop-left-init : goal.loop-left-init
+loop-left-init c =
+    join_first (set_at c.args.blocks.now) c.requires.2.0 c.requires.2.1 c.args.c c.args.word c.requires.1 c.args.from (search rules)
+    (elem_Fits w64 w64 c.args.from _ c.args.c c.well_formed.1.1.1.0.1.1 tt).fits
 
-low : (c : tie.In-loop invariant-loop decreases-loop) → count_trailing_zeros 64 c.before.loop.left < 64
-low c = low-lt _ _ c.before.loop.invariant.part c.loop-test.true
+pub overflow_cast-left : goal.overflow_cast-left
+overflow_cast-left c = omega (arith, low c)
 
-mul_left : tie.Need-overflow-mul-left invariant-loop decreases-loop
-mul_left c = search rules
+pub overflow_add-c : goal.overflow_add-c
+overflow_add-c c = omega (arith, low c, c.requires.1)
 
-array-read-left : tie.Need-array-read-left invariant-loop decreases-loop
-array-read-left c = search rules
+pub at-block-requires : goal.at-block-requires
+at-block-requires c = omega (arith, low c, c.requires.0, c.requires.1)
 
-loop-holds : tie.Need-loop-init invariant-loop decreases-loop
-loop-holds c =
-    let start = c.before in
-    let a = start.args in
-    join_first (set_at a.blocks.now) start.requires.2.0 start.requires.2.1 a.c a.word start.requires.1 a.t4 (search rules)
-    (elem_Fits w64 w64 a.t4 _ a.c start.well-formed.1.1.1.0.1.1 tt).fits
-
-mul_at : tie.Need-overflow-mul-at invariant-loop decreases-loop
-mul_at c = search rules
-
-cast-at : tie.Need-overflow-cast-at invariant-loop decreases-loop
-cast-at c = omega (arith, low c)
-
-add_at : tie.Need-overflow-add-at invariant-loop decreases-loop
-add_at c = omega (arith, low c, c.before.before.before.requires.1)
-
-at-requires : tie.Need-at-requires invariant-loop decreases-loop
-at-requires c κs = omega (arith, low c, c.before.before.before.requires.0, c.before.before.before.requires.1)
-
-sub-left : tie.Need-overflow-sub-left invariant-loop decreases-loop
-sub-left c = search rules
-
-mul-left-2 : tie.Need-overflow-mul-left-2 invariant-loop decreases-loop
-mul-left-2 c = search rules
-
-array-read-left-2 : tie.Need-array-read-left-2 invariant-loop decreases-loop
-array-read-left-2 c = search rules
-
-join-requires : tie.Need-join-requires invariant-loop decreases-loop
-join-requires c κs = search rules
-
-loop-less : tie.Need-loop-smaller invariant-loop decreases-loop
-loop-less c =
-    let at = c.before.before.before.loop in
+pub loop-left-smaller : goal.loop-left-smaller
+loop-left-smaller c =
     omega (
       arith,
-      and_le_l (bit_and at.left (at.left - 1)) ((2 ^ 64 - 1) - get_or c.before.at.result c.before.before.before.before.before.args.c 0),
-      part-less _ _ at.invariant.part c.before.before.loop-test.true,
+      and_le_l (bit_and c.loop-left.left (c.loop-left.left - 1)) ((2 ^ 64 - 1) - get_or c.at-block.result c.args.c 0),
+      part-less _ _ c.loop-left.invariant.part c.loop-left-test.true,
     )
 
-loop-again : tie.Need-loop-preserved invariant-loop decreases-loop
-loop-again c =
-    let start = c.before.before.before.before.before in
-    let inside = c.before.before.loop-test.true in
-    let at-is = c.before.at.ensures in
-    let join_is = c.join.ensures in
-    let a = start.args in
-    let at = c.before.before.before.loop in
-    join-next (set_at a.blocks.now) start.requires.2.0 start.requires.2.1 a.c a.word start.requires.1 a.t4 at.out at.left
-    inside at-is join_is at.invariant
+pub loop-left-preserved : goal.loop-left-preserved
+loop-left-preserved c =
+    let inside = c.loop-left-test.true in
+    let at-is = c.at-block.ensures in
+    let join_is = c.join-next.ensures in
+    join-next (set_at c.args.blocks.now) c.requires.2.0 c.requires.2.1 c.args.c c.args.word c.requires.1 c.args.from c.loop-left.out c.loop-left.left
+    inside at-is join_is c.loop-left.invariant
 
-returns : tie.Need-returns invariant-loop decreases-loop
+pub returns : goal.returns
 returns c =
-    let start = c.before.before.before in
-    let a = start.args in
-    let at = c.before.loop in
-    join-end (set_at a.blocks.now) start.requires.2.0 start.requires.2.1 a.c a.word start.requires.1 a.t4 at.out at.left
-    c.loop-test.false at.invariant
-
-pub join-word-spec : {M : Type 1} → statement M
-join-word-spec =
-    tie.close
-    (tie.spec
-    invariant-loop
-    decreases-loop
-    mul_left
-    array-read-left
-    loop-holds
-    mul_at
-    cast-at
-    add_at
-    at-requires
-    sub-left
-    mul-left-2
-    array-read-left-2
-    join-requires
-    loop-less
-    loop-again
-    returns)
+    join-end (set_at c.args.blocks.now) c.requires.2.0 c.requires.2.1 c.args.c c.args.word c.requires.1 c.args.from c.loop-left.out c.loop-left.left
+    c.loop-left-test.false c.loop-left.invariant
