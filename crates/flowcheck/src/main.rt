@@ -6,14 +6,14 @@ ghost use Rattle.listing.specs.Text.{flow_text};
 fn print(sheet: &[u8], text: &[u8])
     requires { text.now ≡ flow_text sheet.now }
 {
-    io::write_all(libc::STDOUT_FILENO, text);
+    io::write_all(1, text);
 }
 
 // At most one byte more than the longest sheet is read: a longer input has the wrong length already.
 fn main() {
     let mut sheet = [0u8; 8199];
     let mut text = [0u8; 266304];
-    let read = io::read_full(libc::STDIN_FILENO, &mut sheet);
+    let read = io::read_full(0, &mut sheet);
     let size = listing::put_flow(&sheet[..read], &mut text);
     print(&sheet[..read], &text[..size]);
 }
