@@ -1,6 +1,6 @@
 -- A readable encoding's Lts has as many transitions as the encoding has records.
 use Rattle.encoding.proofs.Chains.{chain-all, reached-all, transition-known, successors-below, reached-below}
-use Prim.Native.Nat.{ℕ, zero, suc, ◌+◌, ◌*◌, ◌-◌, ◌≤◌, ◌<◌, ◌%◌}
+use Prim.Native.Nat.{ℕ, zero, suc, ◌+◌, ◌*◌, ◌≤◌, ◌<◌, ◌%◌}
 use mathlib.Core.Path.{◌≡◌, refl, sym, ap, ◌∙◌}
 use mathlib.Core.Bool.{Bool, false, and-eq-true_iff}
 use mathlib.Core.List.{List, map}

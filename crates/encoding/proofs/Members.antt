@@ -24,6 +24,11 @@ pub member-here : (x : ℕ) (l : List ℕ) → T (member x (x ∷ l))
 unfolding member
 member-here x l = or_left (eqb x x) _ (true-T _ (eq-eqb x x refl))
 
+-- at the head, where the two numbers are equal
+pub member-first : (x y : ℕ) (l : List ℕ) → x ≡ y → T (member x (y ∷ l))
+unfolding member
+member-first x y l e = or_left (eqb x y) _ (true-T _ (eq-eqb x y e))
+
 pub member-later : (x y : ℕ) (l : List ℕ) → T (member x l) → T (member x (y ∷ l))
 unfolding member
 member-later x y l t = or_right (eqb x y) _ t
@@ -36,14 +41,14 @@ member-append : (x : ℕ) (k l : List ℕ) → T (member x k) ⊎ T (member x l)
 unfolding member
 member-append x [] l (inl t) = absurd t
 member-append x [] l (inr t) = t
-member-append x (y ∷ k) l (inl t) = member-cases x y k (λ e. rw e (member-here y (k ++ l))) (λ m. member-later x y (k ++ l) (member-append x k l (inl m))) t
+member-append x (y ∷ k) l (inl t) = member-cases x y k (λ e. member-first x y (k ++ l) e) (λ m. member-later x y (k ++ l) (member-append x k l (inl m))) t
 member-append x (y ∷ k) l (inr t) = member-later x y (k ++ l) (member-append x k l (inr t))
 
 append-member : (x : ℕ) (k l : List ℕ) → T (member x (k ++ l)) → T (member x k) ⊎ T (member x l)
 unfolding member
 append-member x [] l t = inr t
 append-member x (y ∷ k) l t =
-    member-cases x y (k ++ l) (λ e. inl (rw e (member-here y k)))
+    member-cases x y (k ++ l) (λ e. inl (member-first x y k e))
     (λ m. ⊎_elim (λ a. inl (member-later x y k a)) (λ b. inr b) (append-member x k l m)) t
 
 module _ (f : ℕ → List ℕ) (x : ℕ) where
@@ -118,7 +123,7 @@ distinct-once (y ∷ l) d x =
     let p = (and-eq-true_iff (not (member y l)) (distinct l)).0 d in
     let none = absent_none y l (λ t. clash (T_true (member y l) t) (not-true (member y l) p.0)) in
     elim (ℕ_discrete x y) [
-      | yes e ↦ rw (e, eq-eqb y y refl, none) (omega arith)
+      | yes e ↦ rw (eq-eqb x y e, ap (λ z. occurrences z l) e, none) (omega arith)
       | no n ↦ rw (ne_eqb x y n) (omega (arith, distinct-once l p.1 x))
     ]
 

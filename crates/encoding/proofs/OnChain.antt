@@ -1,6 +1,6 @@
 -- A record is on some chain exactly where the walks of at most one record more than there are come to it.
 use Prim.Native.Nat.{ℕ, zero, suc, ◌≤◌, ◌<◌}
-use mathlib.Core.Path.{◌≡◌, refl, sym, ap}
+use mathlib.Core.Path.{◌≡◌, refl, sym, ap, subst, ◌∙◌}
 use mathlib.Core.Logic.{◌⊎◌, inl, inr, ⊎_elim, ◌↔◌}
 use mathlib.Core.Bool.{Bool, true, false, not, ◌&&◌}
 use mathlib.Core.List.{List}
@@ -17,7 +17,7 @@ use Rattle.encoding.specs.Encoding.{walk, chain, reached, on_some_chain, member,
 use Rattle.encoding.specs.Checked.{Recorded}
 use Rattle.encoding.specs.Read.{OnChain, first, next, OnSomeChain}
 use Rattle.encoding.proofs.Chains.{walk_more, walk-all, first-known}
-use Rattle.encoding.proofs.Members.{member-here, member-later, member-cases, member-concat, concat-member, distinct-few}
+use Rattle.encoding.proofs.Members.{member-here, member-first, member-later, member-cases, member-concat, concat-member, distinct-few}
 
 -- ## A walk, and the index that it has come to
 module _ (s : List ℕ) (h : Header) where
@@ -52,7 +52,7 @@ module _ (s : List ℕ) (h : Header) where
   walk-longer (suc g) f zero x l t = absurd t
   walk-longer (suc g) zero (suc j) x l t = absurd (not-suc-le-zero l)
   walk-longer (suc g) (suc f) (suc j) x l t =
-      member-cases x (suc j) (walk s h g (to (suc j))) (λ e. rw e (member-here (suc j) (walk s h f (to (suc j)))))
+      member-cases x (suc j) (walk s h g (to (suc j))) (λ e. member-first x (suc j) (walk s h f (to (suc j))) e)
       (λ m. member-later x (suc j) (walk s h f (to (suc j))) (walk-longer g f (to (suc j)) x (omega arith) m)) t
 
   -- the next index of a record on it: 0, a record on it, or the index that it has come to
@@ -70,7 +70,7 @@ module _ (s : List ℕ) (h : Header) where
   walk-leads zero i x t = absurd t
   walk-leads (suc f) zero x t = absurd t
   walk-leads (suc f) (suc j) x t = member-cases x (suc j) (walk s h f (to (suc j)))
-      (λ e. rw e (deeper (to (suc j)) (leads-start f (to (suc j))))) (λ m. deeper (to x) (walk-leads f (to (suc j)) x m)) t
+      (λ e. deeper (to x) (subst (λ z. Leads f (to (suc j)) (to z)) (sym e) (leads-start f (to (suc j))))) (λ m. deeper (to x) (walk-leads f (to (suc j)) x m)) t
     where
       deeper : (y : ℕ) → Leads f (to (suc j)) y → Leads (suc f) (suc j) y
       deeper y (inl e) = inl e
@@ -108,7 +108,7 @@ module _ (s : List ℕ) (h : Header) where
           ring : (g : ℕ) → after g (to (suc j)) ≡ suc j → (y : ℕ) → Leads (suc g) (suc j) (to y) → (to y ≡ 0) ⊎ T (member (to y) (walk s h (suc g) (suc j)))
           ring g e y (inl z) = inl z
           ring g e y (inr (inl q)) = inr q
-          ring g e y (inr (inr z)) = inr (rw (z, e) (member-here (suc j) (walk s h g (to (suc j)))))
+          ring g e y (inr (inr z)) = inr (member-first (to y) (suc j) (walk s h g (to (suc j))) (z ∙ e))
 
       go : (b : Bool) → member (suc j) (walk s h f (to (suc j))) ≡ b → distinct (walk s h f (to (suc j))) ≡ true
           → (not (member (suc j) (walk s h f (to (suc j)))) && distinct (walk s h f (to (suc j)))) ≡ true

@@ -14,7 +14,6 @@ use Rattle.lts.specs.Labels.{same_label}
 use Rattle.lts.specs.declared.Refusal.TheVariants.{Range}
 use Rattle.lts.specs.Rule.{First, broken}
 use Rattle.lts.proofs.Below.{T_true, bool_iff, all_of}
-use Rattle.report.specs.Decimal.{decimal}
 use Rattle.encoding.specs.declared.Header.{Header}
 use Rattle.encoding.specs.Records.{number_at, header_of, state_at, encoding_length, system_records}
 use Rattle.encoding.specs.Records.{label_record, state_record, state_record_at, transition_record, transition_record_at}

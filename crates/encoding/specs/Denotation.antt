@@ -1,5 +1,5 @@
 -- The Lts (flow) that a readable encoding denotes.
-use Rattle.std.specs.Prelude.{ℕ, Bool, true, false, ◌&&◌, ◌||◌, List, [], ◌∷◌, ltb, eqb}
+use Rattle.std.specs.Prelude.{ℕ, Bool, false, ◌&&◌, ◌||◌, List, [], ◌∷◌, ltb, eqb}
 use Rattle.lts.specs.System.{Lts}
 use Rattle.encoding.specs.Records.{header_of, state_record, transition_record}
 use Rattle.encoding.specs.Encoding.{chain}

@@ -1,4 +1,6 @@
 // Encodings of labelled transition systems (document 01, "The sheet"): the records. Crate `reader` reads a whole encoding.
+#![tactic(auto)]
+
 ghost use Rattle.std.specs.Prelude.{◌+◌, ◌*◌, ◌-◌, ◌<◌, ◌≤◌, ◌≡◌, true, cond, length};
 ghost use Rattle.std.proofs.lemmas.List.Edits.{sets};
 ghost use Rattle.lts.specs.Labels.{same_label};
