@@ -1,4 +1,6 @@
 // The blocks of a relation as a list of sets (set p is the block of p), and the pending ones (document 01, "Turns"); blocks of a bit matrix counted and named.
+#![tactic(auto)]
+
 ghost use Rattle.std.specs.Prelude.{◌≡◌, true, false, cond, ◌&&◌, ◌||◌, ℕ, ◌+◌, ◌*◌, ◌%◌, ◌<◌, ◌≤◌, eqb, length, get_or};
 ghost use Rattle.std.specs.Bool.{xor};
 ghost use Rattle.lts.specs.Bounded.{any_below, count_below, passing, list_below, lowest};

@@ -3,7 +3,7 @@ use mathlib.Core.Path.{◌≡◌, refl, sym, ap, ap₂, ◌∙◌}
 use mathlib.Core.Bool.{Bool, true, false, cond, not, ◌&&◌, ◌||◌, and-true, and-false, or-false}
 use mathlib.Core.List.{List, ◌++◌}
 use mathlib.Core.Logic.{⊎_elim}
-use Prim.Native.Nat.{ℕ, ◌+◌, ◌^◌, ◌<◌, ◌≤◌, ◌-◌}
+use Prim.Native.Nat.{ℕ, ◌+◌, ◌^◌, ◌<◌, ◌≤◌}
 use native.Mathlib.Omega.{arith}
 use lib.Dec.{eqb}
 use lib.ListN.{length, drop, get_or}
@@ -16,12 +16,12 @@ use Rattle.sets.specs.Parts.{Parted, Owned}
 use Rattle.lts.proofs.Below.{clash, either, bool_iff, and-fst, lowest-lt, lowest-at, lowest-agree}
 use Rattle.rows.proofs.Rows.{row_of-cong, row-ext, in_row-written, length-written}
 use Rattle.sets.proofs.Lists.{set-in, set_long}
-use Rattle.sets.proofs.Sweep.{Swept, sweep-first, sweep-next, sweep-end}
+use Rattle.sets.proofs.Sweep.{sweep-first, sweep-next, sweep-end}
 use Rattle.partition.specs.Pending.{pending_in}
 use Rattle.partition.proofs.Laws.{differs}
 use borrow.Author.Rules.{rules}
-use Rattle.partition.proofs.update_blocks.Statement.{statement}
-use Rattle.partition.proofs.update_blocks.Tie as tie
+use Rattle.partition.proofs.update_blocks.Invariants.{Updated, Right}
+use Rattle.partition.proofs.update_blocks.Goals as goal
 
 -- the block of p, and its lowest state
 module _ (p : ℕ) (K W P : Rel) (S : Set) (parted : Parted P S) (hp : p < 256) (own : P p p ≡ true) where
@@ -61,17 +61,6 @@ module _ (p : ℕ) (K W P : Rel) (S : Set) (parted : Parted P S) (hp : p < 256) 
       ap₂ (λ (a b : Bool). (differs W K low && a) || (Old x && not b)) (ne_eqb x low (λ same. clash (lowest-at 256 (P p) low_below) (ap (P p) (sym same) ∙ e))) e
       ∙ ap₂ ◌||◌ (and-false (differs W K low)) (and-true (Old x)) ∙ sym (ap (λ (b : Bool). cond b (pending_in 256 K W P x) (Old x)) e))
       (either (P p x))
-
--- the set is right at x
-abbrev Right : Set → List ℕ → ℕ → Type 0
-Right New pending x = in_row pending x ≡ New x
-
--- the set is right at the states that are not left
-record Updated (P : Rel) (New : Set) (pending left : List ℕ) (p : ℕ) : Type 0 where
-  pub long : length pending ≡ 4
-  pub words : pending ≡ row_of 4 (in_row pending)
-  pub owned : Owned P (in_row left)
-  pub swept : Swept (Right New pending) (in_row left) p
 
 update-first : (P : Rel) (New : Set) {pending left : List ℕ} {p : ℕ} → length pending ≡ 4 → ((j : ℕ) → get_or pending j 0 < 2 ^ 64) → Owned P (in_row left)
     → ((x : ℕ) → x < 256 → in_row left x ≡ false → in_row pending x ≡ New x) → Next (in_row left) 256 0 p → Updated P New pending left p
@@ -130,96 +119,36 @@ module _ (K W P : Rel) (S : Set) (parted : Parted P S) (p : ℕ) (hp : p < 256) 
 update-end : (P : Rel) (New : Set) {pending left : List ℕ} {p : ℕ} → 256 ≤ p → Updated P New pending left p → pending ≡ row_of 4 New
 update-end P New {pending} {left} {p} end u = u.words ∙ row_of-cong 4 _ _ (λ q h. sweep-end (Right New pending) (in_row left) p end u.swept q h)
 
-abbrev invariant-loop : tie.invariant-loop
-invariant-loop related viewed blocks pending₀ left₀ p₀ pending left p = Updated (set_at blocks) (pending_in 256 (set_at related) (set_at viewed) (set_at blocks)) pending left p
+pub row_minus-requires : goal.row_minus-requires
+row_minus-requires c = (omega (arith, c.loop-p.invariant.long), search rules)
 
-abbrev decreases-loop : tie.decreases-loop
-decreases-loop related viewed blocks pending₀ left₀ p₀ pending left p = 256 - p
+pub loop-p-smaller : goal.loop-p-smaller
+loop-p-smaller c = omega (arith, c.next_state-p-in-loop-p.ensures.above, c.next_state-p-in-loop-p.ensures.below, c.loop-p-test.true)
 
-slice-aggregate-next-state : tie.Need-slice-aggregate-next-state invariant-loop decreases-loop
-slice-aggregate-next-state c = search rules
+pub shape_of-pending : goal.shape_of-pending
+shape_of-pending c = c.loop-p.invariant.long ∙ sym c.requires.related_len.3
 
-next-state-requires : tie.Need-next-state-requires invariant-loop decreases-loop
-next-state-requires c κs = search rules
+pub returns : goal.returns
+returns c =
+    update-end (set_at c.args.blocks.now) (pending_in 256 (set_at c.args.related.now) (set_at c.args.viewed.now) (set_at c.args.blocks.now)) c.loop-p-test.false c.loop-p.invariant
 
-loop-holds : tie.Need-loop-init invariant-loop decreases-loop
-loop-holds c =
-    let start = c.before.before.before.before.before.before in
-    let a = start.args in
-    update-first (set_at a.blocks.now) (pending_in 256 (set_at a.related.now) (set_at a.viewed.now) (set_at a.blocks.now)) start.requires.0.3 (λ j. (c.before.before.slice-known.given j).fits)
-    start.requires.1.0.1 start.requires.1.1 c.next-state.ensures
+pub loop-p-init : goal.loop-p-init
+loop-p-init c =
+    update-first (set_at c.args.blocks.now) (pending_in 256 (set_at c.args.related.now) (set_at c.args.viewed.now) (set_at c.args.blocks.now)) c.requires.related_len.3 (λ j. (c.slice_known-1.given j).fits)
+    c.requires.owned.1 c.requires.by_index c.next_state-p.ensures
 
-at-requires : tie.Need-at-requires invariant-loop decreases-loop
-at-requires c κs = search rules
-
-slice-aggregate-row-minus : tie.Need-slice-aggregate-row-minus invariant-loop decreases-loop
-slice-aggregate-row-minus c = search rules
-
-row-minus-requires : tie.Need-row-minus-requires invariant-loop decreases-loop
-row-minus-requires c κs = (omega (arith, c.before.before.before.before.loop.invariant.long), search rules)
-
-update-block-requires : tie.Need-update-block-requires invariant-loop decreases-loop
-update-block-requires c κs =
-    let start = c.before.before.before.before.before.before.before.before.before.before.before.before.before.before.before in
-    let a = start.args in
-    let at = c.before.before.before.before.before.before.before.before.loop in
-    let inv = at.invariant in
-    let hp = c.before.before.before.before.before.before.before.loop-test.true in (
-      start.requires.0.0,
-      start.requires.0.1,
-      ap length c.before.before.before.row-minus.ensures ∙ length-written 4 _ at.pending (omega (arith, inv.long)) ∙ inv.long,
-      row_below (set_at a.related.now) (set_at a.viewed.now) (set_at a.blocks.now) start.requires.1.0.0.0 start.requires.1.0.0.1 at.p hp
-          c.before.before.before.before.before.before.at.ensures (inv.owned _ hp (inv.swept.member hp)),
+pub update_block-requires : goal.update_block-requires
+update_block-requires c =
+    let inv = c.loop-p.invariant in
+    let hp = c.loop-p-test.true in (
+      c.requires.related_len.0,
+      c.requires.related_len.1,
+      ap length c.row_minus.ensures ∙ length-written 4 _ c.loop-p.pending (omega (arith, inv.long)) ∙ inv.long,
+      row_below (set_at c.args.related.now) (set_at c.args.viewed.now) (set_at c.args.blocks.now) c.requires.owned.0.0 c.requires.owned.0.1 c.loop-p.p hp
+          c.at-block.ensures (inv.owned _ hp (inv.swept.member hp)),
     )
 
-minus-requires : tie.Need-minus-requires invariant-loop decreases-loop
-minus-requires c κs = search rules
-
-slice-aggregate-next-state-2 : tie.Need-slice-aggregate-next-state-2 invariant-loop decreases-loop
-slice-aggregate-next-state-2 c = search rules
-
-add-next-state : tie.Need-overflow-add-next-state invariant-loop decreases-loop
-add-next-state c = search rules
-
-next-state-requires-2 : tie.Need-next-state-requires-2 invariant-loop decreases-loop
-next-state-requires-2 c κs = search rules
-
-loop-less : tie.Need-loop-smaller invariant-loop decreases-loop
-loop-less c = omega (arith, c.next-state2.ensures.above, c.next-state2.ensures.below, c.before.before.before.before.before.before.before.before.before.before.before.before.before.loop-test.true)
-
-loop-again : tie.Need-loop-preserved invariant-loop decreases-loop
-loop-again c =
-    let start = c.before.before.before.before.before.before.before.before.before.before.before.before.before.before.before.before.before.before.before.before.before in
-    let a = start.args in
-    update-next (set_at a.related.now) (set_at a.viewed.now) (set_at a.blocks.now) start.requires.1.0.0.0 start.requires.1.0.0.1 c.before.before.before.before.before.before.before.before.before.before.before.before.before.before.loop.p c.before.before.before.before.before.before.before.before.before.before.before.before.before.loop-test.true
-    c.before.before.before.before.before.before.before.before.before.before.before.before.at.ensures c.before.before.before.before.before.before.before.before.before.row-minus.ensures c.before.before.before.before.before.update-block.ensures c.before.before.minus.ensures c.next-state2.ensures c.before.before.before.before.before.before.before.before.before.before.before.before.before.before.loop.invariant
-
-same_length : tie.Need-same-length invariant-loop decreases-loop
-same_length c = c.before.loop.invariant.long ∙ sym c.before.before.before.before.before.before.before.before.requires.0.3
-
-returns : tie.Need-returns invariant-loop decreases-loop
-returns c =
-    let a = c.before.before.before.before.before.before.before.before.args in
-    update-end (set_at a.blocks.now) (pending_in 256 (set_at a.related.now) (set_at a.viewed.now) (set_at a.blocks.now)) c.loop-test.false c.before.loop.invariant
-
-pub update-blocks-spec : {M : Type 1} → statement M
-update-blocks-spec =
-    tie.close
-    (tie.spec
-    invariant-loop
-    decreases-loop
-    slice-aggregate-next-state
-    next-state-requires
-    loop-holds
-    at-requires
-    slice-aggregate-row-minus
-    row-minus-requires
-    update-block-requires
-    minus-requires
-    slice-aggregate-next-state-2
-    add-next-state
-    next-state-requires-2
-    loop-less
-    loop-again
-    same_length
-    returns)
+pub loop-p-preserved : goal.loop-p-preserved
+loop-p-preserved c =
+    update-next (set_at c.args.related.now) (set_at c.args.viewed.now) (set_at c.args.blocks.now) c.requires.owned.0.0 c.requires.owned.0.1 c.loop-p.p c.loop-p-test.true
+    c.at-block.ensures c.row_minus.ensures c.update_block.ensures c.minus-rest.ensures c.next_state-p-in-loop-p.ensures c.loop-p.invariant

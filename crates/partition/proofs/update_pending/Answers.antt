@@ -17,9 +17,7 @@ use Rattle.rows.proofs.Rows.{in_row-written, length-written}
 use Rattle.sets.proofs.Lists.{set-in}
 use Rattle.partition.specs.Pending.{pending_in}
 use Rattle.partition.proofs.Laws.{differs}
-use borrow.Author.Rules.{rules}
-use Rattle.partition.proofs.update_pending.Statement.{statement}
-use Rattle.partition.proofs.update_pending.Tie as tie
+use Rattle.partition.proofs.update_pending.Goals as goal
 
 module _ (K W P : Rel) (shared touched : List ℕ) (parted : Parted P (in_row shared)) (owned : Owned P (in_row touched)) where
   -- a touched state that is alone is its block's lowest
@@ -69,66 +67,16 @@ module _ (K W P : Rel) (shared touched : List ℕ) (parted : Parted P (in_row sh
         go true true a b e = absurd (clash refl e)
         go true false a b e = ap (λ (x : Bool). x || differs W K p) (and-false (in_row pending p)) ∙ pending-alone p h a b
 
-minus-requires : tie.Need-minus-requires
-minus-requires c κs = search rules
-
-differing-requires : tie.Need-differing-requires
-differing-requires c κs = search rules
-
-slice-aggregate-row-minus : tie.Need-slice-aggregate-row-minus
-slice-aggregate-row-minus c = search rules
-
-row-minus-requires : tie.Need-row-minus-requires
-row-minus-requires c κs = search rules
-
-slice-aggregate-row-union : tie.Need-slice-aggregate-row-union
-slice-aggregate-row-union c = search rules
-
-row-union-requires : tie.Need-row-union-requires
-row-union-requires c κs = search rules
-
-meet-requires : tie.Need-meet-requires
-meet-requires c κs = search rules
-
-update-blocks-requires : tie.Need-update-blocks-requires
-update-blocks-requires c κs =
-    let start = c.before.before.before.before.before.before.before.before.before.before.before.before.before.before.before.before.before.before in
-    let a = start.args in
-    let K = set_at a.related.now in
-    let W = set_at a.viewed.now in
-    let P = set_at a.blocks.now in
-    let parted = start.requires.1.0.0 in
-    let owned = start.requires.1.0.1 in
-    let right = start.requires.1.1 in (
-      (
-        start.requires.0.0,
-        start.requires.0.1,
-        start.requires.0.2,
-        done-long K W P a.shared a.touched parted owned a.pending.now _ _ _ _ _ c.before.before.before.before.before.before.before.before.before.before.before.before.before.minus.ensures c.before.before.before.before.before.before.before.before.before.before.before.before.differing.ensures c.before.before.before.before.before.before.before.before.before.row-minus.ensures c.before.before.before.before.Row-union.ensures c.before.meet.ensures right start.requires.0.3,
-      ),
-      (
-        ((in_row a.shared, parted), common-owned K W P a.shared a.touched parted owned a.pending.now _ _ _ _ _ c.before.before.before.before.before.before.before.before.before.before.before.before.before.minus.ensures c.before.before.before.before.before.before.before.before.before.before.before.before.differing.ensures c.before.before.before.before.before.before.before.before.before.row-minus.ensures c.before.before.before.before.Row-union.ensures c.before.meet.ensures right),
-        done-right K W P a.shared a.touched parted owned a.pending.now _ _ _ _ _ c.before.before.before.before.before.before.before.before.before.before.before.before.before.minus.ensures c.before.before.before.before.before.before.before.before.before.before.before.before.differing.ensures c.before.before.before.before.before.before.before.before.before.row-minus.ensures c.before.before.before.before.Row-union.ensures c.before.meet.ensures right,
-      ),
-    )
-
-same_length : tie.Need-same-length
-same_length c = search rules
-
-returns : tie.Need-returns
-returns c = search rules
-
-pub update-pending-spec : {M : Type 1} → statement M
-update-pending-spec =
-    tie.close
-    (tie.spec
-    minus-requires
-    differing-requires
-    slice-aggregate-row-minus
-    row-minus-requires
-    slice-aggregate-row-union
-    row-union-requires
-    meet-requires
-    update-blocks-requires
-    same_length
-    returns)
+pub update_blocks-requires : goal.update_blocks-requires
+update_blocks-requires c =
+    let K = set_at c.args.related.now in
+    let W = set_at c.args.viewed.now in
+    let P = set_at c.args.blocks.now in
+    let parted = c.requires.parted.0 in
+    let owned = c.requires.parted.1 in
+    let right = c.requires.by_index in
+    record {
+      related_len = (c.requires.related_len.0, c.requires.related_len.1, c.requires.related_len.2, done-long K W P c.args.shared c.args.touched parted owned c.args.pending.now _ _ _ _ _ c.minus-alone.ensures c.differing-open.ensures c.row_minus.ensures c.row_union.ensures c.meet.ensures right c.requires.related_len.3);
+      owned = ((in_row c.args.shared, parted), common-owned K W P c.args.shared c.args.touched parted owned c.args.pending.now _ _ _ _ _ c.minus-alone.ensures c.differing-open.ensures c.row_minus.ensures c.row_union.ensures c.meet.ensures right);
+      by_index = done-right K W P c.args.shared c.args.touched parted owned c.args.pending.now _ _ _ _ _ c.minus-alone.ensures c.differing-open.ensures c.row_minus.ensures c.row_union.ensures c.meet.ensures right;
+    }

@@ -13,9 +13,7 @@ use Rattle.lts.proofs.Below.{bool_iff, and-fst, and-snd}
 use Rattle.rows.proofs.Rows.{in_row-written, length-written}
 use Rattle.sets.proofs.Lists.{set-in, sets-in, sets-cong, sets-long}
 use Rattle.partition.specs.Pending.{Ordered, Grown}
-use borrow.Author.Rules.{rules}
-use Rattle.partition.proofs.write_block.Statement.{statement}
-use Rattle.partition.proofs.write_block.Tie as tie
+use Rattle.partition.proofs.write_block.Goals as goal
 
 -- the block of p is written
 module _ (n p : ℕ) (K : Rel) (ok : Ordered n K) (hn : p < n) (hp : p < 256) (written members written' : List ℕ) (long : length written ≡ 4)
@@ -58,54 +56,16 @@ module _ (n p : ℕ) (K : Rel) (ok : Ordered n K) (hn : p < n) (hp : p < 256) (w
           sets-in 256 _ before g h l u
           ∙ sym (ap (λ (b : Bool). b && block K g h) (in-written g l ∙ ap (λ (b : Bool). in_row written g || b) m ∙ or-false (in_row written g)))
 
-contains-requires : tie.Need-contains-requires
-contains-requires c κs = search rules
+pub returns-then-contains : goal.returns-then-contains
+returns-then-contains c = record { blocks_after = c.requires.blocks_value; grown = record { long = c.requires.related_len.3; added = sym c.contains.ensures ∙ c.if-contains.true; kept = λ g h e. e } }
 
-same_length : tie.Need-same-length
-same_length c = search rules
+pub block_of-members-requires : goal.block_of-members-requires
+block_of-members-requires c = let pre = c.requires.related_len in (pre.0, pre.1, (pre.2.0, pre.2.1))
 
-returns : tie.Need-returns
-returns c = (c.before.before.before.before.before.before.requires.1, record { long = c.before.before.before.before.before.before.requires.0.3; added = sym c.before.contains.ensures ∙ c.if1.true; kept = λ g h e. e })
+pub set_rows-requires : goal.set_rows-requires
+set_rows-requires c = sets-long 256 _ c.requires.blocks_value
 
-block-of-requires : tie.Need-block-of-requires
-block-of-requires c κs = let pre = c.before.before.before.before.before.before.requires.0 in (pre.0, pre.1, (pre.2.0, pre.2.1))
-
-set-rows-requires : tie.Need-set-rows-requires
-set-rows-requires c κs = sets-long 256 _ c.before.before.before.before.before.before.before.before.requires.1
-
-slice-aggregate-row-union : tie.Need-slice-aggregate-row-union
-slice-aggregate-row-union c = search rules
-
-row-union-requires : tie.Need-row-union-requires
-row-union-requires c κs = search rules
-
-same-length-2 : tie.Need-same-length-2
-same-length-2 c = search rules
-
-same-length-3 : tie.Need-same-length-3
-same-length-3 c = search rules
-
-returns-2 : tie.Need-returns-2
-returns-2 c =
-    let start = c.before.before.before.before.before.before.before.before.before.before.before.before.before.before.before.before in
-    let a = start.args in
-    let pre = start.requires.0 in
-    let K = set_at a.related.now in (
-      blocks-next pre.2.0 a.p K pre.2.1 pre.2.2 pre.1 a.written.now _ _ pre.3 c.before.before.before.before.before.before.before.before.before.Block-of.ensures c.before.before.Row-union.ensures a.blocks.now _ start.requires.1 c.before.before.before.before.before.before.before.set-rows.ensures,
-      grown pre.2.0 a.p K pre.2.1 pre.2.2 pre.1 a.written.now _ _ pre.3 c.before.before.before.before.before.before.before.before.before.Block-of.ensures c.before.before.Row-union.ensures,
-    )
-
-pub write-block-spec : {M : Type 1} → statement M
-write-block-spec =
-    tie.close
-    (tie.spec
-    contains-requires
-    same_length
-    returns
-    block-of-requires
-    set-rows-requires
-    slice-aggregate-row-union
-    row-union-requires
-    same-length-2
-    same-length-3
-    returns-2)
+pub returns : goal.returns
+returns c =
+    let pre = c.requires.related_len in
+    let K = set_at c.args.related.now in record { blocks_after = blocks-next pre.2.0 c.args.p K pre.2.1 pre.2.2 pre.1 c.args.written.now _ _ pre.3 c.block_of-members.ensures c.row_union.ensures c.args.blocks.now _ c.requires.blocks_value c.set_rows.ensures; grown = grown pre.2.0 c.args.p K pre.2.1 pre.2.2 pre.1 c.args.written.now _ _ pre.3 c.block_of-members.ensures c.row_union.ensures }
