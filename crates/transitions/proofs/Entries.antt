@@ -1,15 +1,14 @@
 -- The numbers of a table and the transitions of its system. Assumes nothing.
-use Prim.Native.Nat.{ℕ, zero, suc, ◌+◌, ◌-◌, ◌*◌, ◌≤◌, ◌<◌}
-use mathlib.Core.Path.{◌≡◌, refl, sym, ap, ◌∙◌, subst}
+use Prim.Native.Nat.{ℕ, zero, suc, ◌+◌, ◌-◌, ◌≤◌, ◌<◌}
+use mathlib.Core.Path.{◌≡◌, sym, ap, subst}
 use mathlib.Core.Logic.{◌⊎◌, inl, inr, ◌↔◌}
-use mathlib.Core.Bool.{Bool, true, false, ◌&&◌}
+use mathlib.Core.Bool.{true, ◌&&◌}
 use mathlib.Core.List.{List}
 use native.Mathlib.Omega.{arith}
 use native.Mathlib.Nat.{eq-or-lt_of_le, le_of_suc-le-suc}
 use native.Mathlib.Numerals.{add-one}
 use lib.Dec.{T, eqb, eqb→eq, eqb_refl}
-use lib.ListN.{get_or}
-use Rattle.lts.specs.System.{Lts, WellFormed}
+use Rattle.lts.specs.System.{WellFormed}
 use Rattle.lts.proofs.Bounded.{and-iff, any-iff}
 use Rattle.lts.proofs.Below.{lt-or-ge, T_true, true-T}
 use Rattle.transitions.specs.Table.{states_of, actions_of, count_of, offset_at, source_at, action_at, target_at, is_entry, rank, table_lts, Formed}

@@ -5,7 +5,7 @@ use mathlib.Core.Bool.{Bool, true, false, cond, ◌&&◌}
 use mathlib.Core.List.{List, [], ◌∷◌, ◌++◌, append-nil}
 use mathlib.Core.Logic.{⊎_elim}
 use native.Mathlib.Omega.{arith}
-use native.Mathlib.Nat.{not-suc-le-zero, le_refl, zero-add, le_of_suc-le-suc, le_step, eq-or-lt_of_le}
+use native.Mathlib.Nat.{not-suc-le-zero, le_refl, le_of_suc-le-suc, le_step, eq-or-lt_of_le}
 use native.Mathlib.Numerals.{add-one}
 use native.Mathlib.Decide.{ℕ_discrete}
 use lib.ListN.{length, get_or, set, drop, length-set, length-append, replicate, length-replicate}
@@ -16,10 +16,10 @@ use lib.Count.{count_trailing_zeros}
 use borrow.Author.Tests.{eq-eqb, ne_eqb, lt-ltb, le-ltb}
 use Rattle.lts.specs.Bounded.{passing, concat_below}
 use Rattle.lts.specs.System.{Lts}
-use Rattle.lts.specs.Transitions.{Transition, transitions_to, transitions_by, transitions_of, transitions_below}
+use Rattle.lts.specs.Transitions.{Transition, transitions_to, transitions_of, transitions_below}
 use Rattle.lts.proofs.Count.{passing-shorter}
 use Rattle.lts.proofs.Below.{lt-or-ge, length-list_below}
-use Rattle.lts.proofs.Lists.{passing-none, passing-same, passing-more, passing-room, concat-more, concat-grows}
+use Rattle.lts.proofs.Lists.{passing-none, passing-same, passing-more, passing-room, concat-grows}
 use Rattle.lts.proofs.Transitions.{to_none, to-more, to-length, up_none, up_more, up-grows}
 use Rattle.rows.specs.Rows.{bit, in_row, row_of, Next}
 use Rattle.rows.proofs.Rows.{part_in, get_or-zeros, in_row-of, in_row-zeros, row_of-cong}

@@ -1,5 +1,5 @@
 -- What a table holds after it is written to. Assumes nothing.
-use Prim.Native.Nat.{ℕ, zero, suc, ◌+◌, ◌≤◌, ◌<◌}
+use Prim.Native.Nat.{ℕ, zero, suc, ◌+◌, ◌<◌}
 use mathlib.Core.Path.{◌≡◌, refl, sym, ap, ◌∙◌}
 use mathlib.Core.List.{List, [], ◌∷◌, ◌++◌, append_assoc, append-nil}
 use native.Mathlib.Omega.{arith}
@@ -9,7 +9,7 @@ use lib.ListN.{length, get_or, set, length-set, length-append}
 use lib.Seq.{get_or-set_same, get_or-set_other}
 use Rattle.lts.specs.Bounded.{concat_below}
 use Rattle.lts.specs.Transitions.{Transition}
-use Rattle.lts.proofs.Lists.{concat-more, concat-same, concat-length, concat-at}
+use Rattle.lts.proofs.Lists.{concat-more, concat-same, concat-at}
 use Rattle.lts.proofs.Transitions.{nth}
 use Rattle.transitions.specs.Table.{source_at, action_at, target_at, entry_at, table_transitions}
 use Rattle.transitions.specs.Filling.{with_transition, Extends}

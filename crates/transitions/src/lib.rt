@@ -1,4 +1,6 @@
 // Transition tables: a system in one array, filled from a sheet, and the lookups in it. The crates above work on tables and on no sheet.
+#![tactic(auto)]
+
 ghost use Rattle.std.specs.Prelude.{◌≡◌, false, cond, ◌||◌, List, ℕ, ◌+◌, ◌*◌, ◌<◌, ◌≤◌, length, get_or, drop, replicate};
 ghost use Rattle.lts.specs.Bounded.{passing};
 ghost use Rattle.lts.specs.System.{Lts, into};
