@@ -1,4 +1,6 @@
 // The lines that the program flowcheck prints (document 01, "Flows on each side"), written into a lent buffer.
+#![tactic(auto)]
+
 ghost use Rattle.std.specs.Prelude.{◌≡◌, ◌++◌, ◌+◌, ◌*◌, ◌<◌, ◌≤◌, length};
 ghost use Rattle.lts.specs.Bounded.{concat_below};
 ghost use Rattle.report.specs.Decimal.{decimal, written};
