@@ -1,5 +1,7 @@
 // The two conditions of a simulation on a pair of states (document 000, Definition 2.1), and a claim tested by them pair by pair, on a
 // transition table (document 02, L5).
+#![tactic(auto)]
+
 ghost use Rattle.std.specs.Prelude.{◌≡◌, ◌↔◌, ◌+◌, ◌<◌, T};
 ghost use Rattle.lts.specs.Bounded.{◌⇒◌, all_below};
 ghost use Rattle.lts.specs.System.{within};
