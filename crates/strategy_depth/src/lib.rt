@@ -1,5 +1,7 @@
 // The depths of a strategy's entries (document 02, L8), by marks, one a pair: 0 where no entry so far has the pair, else one more than the
 // least depth of those that have it.
+#![tactic(auto)]
+
 ghost use Rattle.std.specs.Prelude.{◌≡◌, ◌+◌, ◌*◌, ◌%◌, ◌<◌, ◌≤◌, max, length, set};
 ghost use Rattle.transitions.specs.Table.{states_of, target_at, table_lts, Formed};
 ghost use Rattle.strategy_depth.specs.Marks.{mark_of, lowered, reply_mark, reply_depth, entry_mark};
