@@ -1,5 +1,7 @@
 // The transitions of a table as rows of sets by action and state (crate `sets`), and the sets that one action of a refinement step needs. `places`
 // says which row has the targets, or the sources, of the transitions by an action at a state (`Index`).
+#![tactic(auto)]
+
 ghost use Rattle.std.specs.Prelude.{◌≡◌, true, not, ◌&&◌, ◌||◌, List, ℕ, ◌+◌, ◌*◌, ◌<◌, ◌≤◌, eqb, length, get_or};
 ghost use Rattle.lts.specs.Bounded.{any_below};
 ghost use Rattle.lts.specs.System.{into};

@@ -1,0 +1,12 @@
+use mathlib.Core.Path.{◌≡◌, ap, ◌∙◌}
+use Prim.Native.Nat.{◌-◌, ◌*◌, ◌≤◌}
+use native.Mathlib.Omega.{arith}
+use Rattle.adjacency.proofs.Lookups.{entering, entering-none, entering-more}
+use borrow.Author.Rules.{rules}
+use Rattle.adjacency.proofs.actions_entering.Given as goal
+
+abbrev pub invariant-loop-c : goal.invariant-loop-c
+invariant-loop-c l = (l.c ≤ 4) × (l.out ≡ entering l.rows l.set (64 * l.c))
+
+abbrev pub decreases-loop-c : goal.decreases-loop-c
+decreases-loop-c l = 4 - l.c
