@@ -1,4 +1,6 @@
 // The starts that calls write, of a transition table: the end start (document 01, "Grids") and the ready start (document 02, L6).
+#![tactic(auto)]
+
 ghost use Rattle.std.specs.Prelude.{◌≡◌, ◌*◌, ◌<◌, ◌≤◌, length, get_or};
 ghost use Rattle.lts.specs.System.{termination_preorder};
 ghost use Rattle.lts.specs.Ready.{ready_preorder};
