@@ -1,4 +1,6 @@
 // The rounds W0, W1, .. (document 01, "Plans") on bit matrices, and the round at which a pair falls.
+#![tactic(auto)]
+
 ghost use Rattle.std.specs.Prelude.{◌≡◌, ◌&&◌, ◌+◌, ◌*◌, ◌<◌, ◌≤◌, length};
 ghost use Rattle.lts.specs.Bounded.{restrict};
 ghost use Rattle.lts.specs.System.{into};
