@@ -1,5 +1,7 @@
 // The refinement engine (document 01, "Turns") on a transition table: the relations K and V and the blocks of K are lists of 256 sets of four words, and a
 // refinement step works on whole sets.
+#![tactic(auto)]
+
 ghost use Rattle.std.specs.Prelude.{◌≡◌, true, false, cond, not, ◌&&◌, ◌||◌, List, ℕ, ◌+◌, ◌*◌, ◌<◌, ◌≤◌, eqb, ltb, length, get_or};
 ghost use Rattle.lts.specs.Bounded.{◌⇒◌, any_below, all_below};
 ghost use Rattle.lts.specs.System.{into};

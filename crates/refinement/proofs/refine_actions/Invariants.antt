@@ -1,0 +1,25 @@
+use mathlib.Core.Path.{◌≡◌, sym, ap, ◌∙◌}
+use Prim.Native.Nat.{ℕ, ◌+◌, ◌-◌, ◌<◌, ◌≤◌}
+use native.Mathlib.Omega.{arith}
+use mathlib.Core.List.{List}
+use lib.ListN.{length}
+use lib.Bits.{bit_and}
+use lib.Count.{count_trailing_zeros}
+use Rattle.rows.specs.Rows.{in_row}
+use Rattle.sets.specs.Sets.{set_at}
+use Rattle.sets.proofs.Lists.{sets-long}
+use Rattle.refinement.specs.Engine.{Owning, Fixed, removed_by, hits_by}
+use Rattle.refinement.proofs.Actions.{Going, going-begin, going_next, going_end, next-most}
+use lib.Bits.{and_le_r}
+use lib.Count.{trailing_le}
+use borrow.Author.Rules.{rules}
+use Rattle.refinement.proofs.refine_actions.Given as goal
+
+abbrev pub invariant-loop-left : goal.invariant-loop-left
+invariant-loop-left l =
+    (length l.related ≡ 1024) × (length l.blocks ≡ 1024) × ((t : List ℕ) → Owning t l.initial.blocks
+    → Fixed t l.places l.rows l.turn.actions (in_row l.turn.members) (in_row l.turn.inside) (in_row l.turn.outside) (set_at l.initial.blocks) l.turn.whole
+    → (i : ℕ) × Going t (removed_by t (in_row l.turn.inside) (in_row l.turn.outside)) (hits_by t (in_row l.turn.members)) l.turn.actions (in_row l.shared) l.initial.related l.initial.blocks i l.left l.related l.blocks l.touched)
+
+abbrev pub decreases-loop-left : goal.decreases-loop-left
+decreases-loop-left l = l.left
