@@ -1,4 +1,6 @@
 // Labels (names) of two sheets matched (document 02, L2): an index of labels by their bytes, and the joined numbers of the second sheet's actions.
+#![tactic(auto)]
+
 ghost use Rattle.std.specs.Prelude.{ℕ, ◌+◌, ◌*◌, ◌<◌, ◌≤◌, max, ◌≡◌, cond, List, [], ◌∷◌, ◌++◌, length};
 ghost use Rattle.std.proofs.lemmas.List.Edits.{sets};
 ghost use Rattle.lts.specs.Places.{among, place_in};

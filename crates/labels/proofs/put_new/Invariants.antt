@@ -1,0 +1,16 @@
+use Prim.Native.Nat.{ℕ, ◌≤◌, ◌-◌}
+use mathlib.Core.Path.{◌≡◌}
+use mathlib.Core.List.{List}
+use lib.ListN.{length, take}
+use Rattle.lts.specs.Labels.{joined_labels}
+use Rattle.encoding.specs.Labels.{labels_in, labels_bytes}
+use Rattle.labels.specs.Maps.{Begins, Joining}
+use Rattle.labels.proofs.put_new.Given as goal
+
+abbrev pub invariant-loop-i : goal.invariant-loop-i
+invariant-loop-i l =
+    (l.i ≤ l.k) × (l.k ≡ l.h.actions) × (l.k ≤ 64) × (length l.out ≡ 1024)
+    × ((A : List (List ℕ)) → Joining A (labels_in l.s l.h) l.m l.to l.initial.out → Begins l.out (labels_bytes (joined_labels A (take l.i (labels_in l.s l.h)))))
+
+abbrev pub decreases-loop-i : goal.decreases-loop-i
+decreases-loop-i l = l.k - l.i
