@@ -1,4 +1,6 @@
 // The check of a strategy (document 01, "Check plan") on a transition table: entries in a slice of 16-bit numbers, four an entry.
+#![tactic(auto)]
+
 ghost use Rattle.std.specs.Prelude.{◌≡◌, ◌+◌, ◌*◌, ◌<◌, ◌≤◌, length, T};
 ghost use Rattle.lts.specs.System.{reflexive};
 ghost use Rattle.lts.specs.Strategy.{entries_of};
