@@ -9,14 +9,14 @@ fn main() {
     let own = PathBuf::from(std::env::var_os("CARGO_MANIFEST_DIR").expect("cargo sets it"));
     let dir = match std::env::var_os(VARIABLE) {
         Some(dir) => PathBuf::from(dir),
-        None => own.join("../../target/staticlib"),
+        None => own.join("../../crates/release/out"),
     };
     let archive = dir.join("librelease.a");
     println!("cargo:rerun-if-env-changed={VARIABLE}");
     println!("cargo:rerun-if-changed={}", archive.display());
     if !archive.is_file() {
         eprintln!(
-            "librelease.a is missing: run `rt staticlib release` in the repository's root, or set {VARIABLE}"
+            "librelease.a is missing: run `rt lib` in crates/release, or set {VARIABLE}"
         );
         exit(1);
     }

@@ -1,6 +1,6 @@
 //! The program flowcheck, run as a process, against document 01's text and
 //! the independent program. It is taken from `FLOWCHECK`, or from where
-//! `rt check flowcheck` leaves it.
+//! `rt run` in its folder leaves it.
 
 mod faults;
 
@@ -24,13 +24,13 @@ const SHEETS: u64 = 2_500;
 const PATIENCE: Duration = Duration::from_secs(20);
 
 fn start() -> Child {
-    let beside = concat!(env!("CARGO_MANIFEST_DIR"), "/../../target/bin/flowcheck");
+    let beside = concat!(env!("CARGO_MANIFEST_DIR"), "/../../crates/flowcheck/out/flowcheck");
     let program = std::env::var("FLOWCHECK").unwrap_or(beside.into());
     Command::new(&program)
         .stdin(Stdio::piped())
         .stdout(Stdio::piped())
         .spawn()
-        .unwrap_or_else(|error| panic!("{program}: {error} (rt check flowcheck builds it)"))
+        .unwrap_or_else(|error| panic!("{program}: {error} (rt run in crates/flowcheck builds it)"))
 }
 
 /// What the program prints for an input that arrives in parts of this size.
