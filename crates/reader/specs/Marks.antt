@@ -1,6 +1,6 @@
 -- What the functions that follow chains say of each other: marks that are set along a list of places, marks of the records on chains, and
 -- counts of the indices that name a record.
-use Rattle.std.specs.Prelude.{ℕ, ◌+◌, ◌≤◌, ◌<◌, ◌≡◌, ◌⊎◌, Bool, true, not, ◌&&◌, List, [], ◌∷◌, length, get_or, set, eqb}
+use Rattle.std.specs.Prelude.{ℕ, ◌+◌, ◌<◌, ◌≡◌, ◌⊎◌, Bool, true, not, ◌&&◌, List, [], ◌∷◌, length, get_or, set, eqb}
 use Rattle.encoding.specs.declared.Header.{Header}
 use Rattle.encoding.specs.Records.{transition_record}
 use Rattle.encoding.specs.Encoding.{occurrences}

@@ -1,4 +1,6 @@
 // Reads an encoding (document 01, "The sheet"; document 02, L1 and L2): its header, or the first rule that it breaks, with the record that is off its chain.
+#![tactic(auto)]
+
 ghost use Rattle.std.specs.Prelude.{ℕ, ◌+◌, ◌*◌, ◌<◌, ◌≤◌, ◌≡◌, true, false, not, ◌&&◌, List, map, eqb, leb, length, get_or, drop};
 ghost use Rattle.lts.specs.Bounded.{list_below, lowest};
 ghost use Rattle.lts.specs.Places.{among};

@@ -1,0 +1,11 @@
+use Prim.Native.Nat.{◌≤◌, ◌+◌, ◌-◌}
+use lib.ListN.{get_or}
+use lib.Dec.{leb}
+use Rattle.reader.proofs.Lowest.{NoneBelow}
+use Rattle.reader.proofs.lowest_counted_twice.Given as goal
+
+abbrev pub invariant-loop-i : goal.invariant-loop-i
+invariant-loop-i l = (l.i ≤ l.k) × NoneBelow (λ x. leb 2 (get_or l.named (x + 1) 0)) l.i
+
+abbrev pub decreases-loop-i : goal.decreases-loop-i
+decreases-loop-i l = l.k - l.i
