@@ -1,4 +1,6 @@
 // The inputs that calls begin with: a sheet and a start on its states, or two sheets that are joined.
+#![tactic(auto)]
+
 ghost use Rattle.std.specs.Prelude.{◌≤◌, ◌≡◌, length};
 ghost use Rattle.lts.specs.Rule.{checked};
 ghost use Rattle.encoding.specs.declared.Reading.TheVariants.{Readable, Refused};
