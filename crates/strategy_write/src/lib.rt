@@ -1,4 +1,6 @@
 // The strategy of a refuted pair (document 01, "Write plan") on a transition table, written into a slice of 16-bit numbers, four an entry.
+#![tactic(auto)]
+
 ghost use Rattle.std.specs.Prelude.{◌≡◌, true, false, ◌∷◌, [], ◌++◌, ◌+◌, ◌*◌, ◌<◌, ◌≤◌, length, drop};
 ghost use Rattle.std.proofs.lemmas.List.Edits.{sets};
 ghost use Rattle.lts.specs.System.{answered};

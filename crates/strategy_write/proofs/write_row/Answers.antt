@@ -1,0 +1,49 @@
+-- `strategy_write::write_row` meets its contract: cell by cell. Assumes nothing.
+use Prim.Native.Nat.{ℕ, ◌+◌, ◌*◌, ◌≤◌, ◌<◌}
+use mathlib.Core.Path.{◌≡◌, ◌∙◌, ap, subst⁻¹}
+use mathlib.Core.List.{List}
+use native.Mathlib.Omega.{arith}
+use lib.ListN.{length}
+use lib.Seq.{sets}
+use Rattle.lts.specs.Bounded.{concat_below}
+use Rattle.lts.specs.declared.Entry.{Entry}
+use Rattle.lts.specs.Strategy.{entry_numbers}
+use Rattle.transitions.specs.Table.{states_of}
+use Rattle.strategy_write.specs.Writing.{pairs_of}
+use Rattle.strategy_write.proofs.Writes.{written_none, at_none, at_more, written-more, room_next, same_size, row_is}
+use borrow.Author.Rules.{rules}
+use Rattle.strategy_write.proofs.write_row.Invariants.{cells}
+use Rattle.strategy_write.proofs.write_row.Goals as goal
+
+pub loop-q-init : goal.loop-q-init
+loop-q-init c = let F = cells c.args.table.now c.args.before.now c.args.after.now c.args.initial c.args.p in
+    (search rules, at_none c.args.numbers.now c.args.first F, written_none c.args.numbers.now c.args.first F)
+
+pub write_cell-at-requires : goal.write_cell-at-requires
+write_cell-at-requires c = let t = c.args.table.now in
+    let l = c.loop-q.invariant in
+    let F = cells t c.args.before.now c.args.after.now c.args.initial c.args.p in
+    let below : c.loop-q.q < states_of t = omega (arith, c.loop-q-test.true, c.states-n.ensures.0) in record {
+      consecutive = (c.requires.consecutive.0, c.requires.consecutive.1, below);
+      es_in_bounds = room_next c.args.numbers.now c.args.first F _ (states_of t) below l.1 l.2
+          (subst⁻¹ (λ (x : List Entry). 4 * (c.args.first + length x) ≤ length c.args.numbers.now) (row_is t c.args.initial (pairs_of t c.args.before.now) (pairs_of t c.args.after.now) c.args.p) c.requires.es_in_bounds);
+    }
+
+pub loop-q-preserved : goal.loop-q-preserved
+loop-q-preserved c = let l = c.loop-q.invariant in
+    let F = cells c.args.table.now c.args.before.now c.args.after.now c.args.initial c.args.p in (
+      omega (arith, c.loop-q-test.true),
+      at_more c.args.numbers.now c.args.first F _ l.1 c.write_cell-at.ensures.result_value,
+      written-more c.args.numbers.now c.args.first F _ l.2 l.1 c.write_cell-at.ensures.numbers_after,
+    )
+
+pub shape_of-numbers : goal.shape_of-numbers
+shape_of-numbers c = same_size c.args.numbers.now c.args.first (cells c.args.table.now c.args.before.now c.args.after.now c.args.initial c.args.p) _ c.loop-q.invariant.2
+
+pub returns : goal.returns
+returns c = let t = c.args.table.now in
+    let l = c.loop-q.invariant in
+    let end : c.loop-q.q ≡ states_of t = omega (arith, l.0, c.loop-q-test.false, c.states-n.ensures.0) in
+    let list = ap (λ (i : ℕ). concat_below i (cells t c.args.before.now c.args.after.now c.args.initial c.args.p)) end
+    ∙ row_is t c.args.initial (pairs_of t c.args.before.now) (pairs_of t c.args.after.now) c.args.p in
+    record { result_value = l.1 ∙ ap (λ (x : List Entry). c.args.first + length x) list; numbers_after = l.2 ∙ ap (λ (x : List Entry). sets c.args.numbers.now (4 * c.args.first) (entry_numbers x)) list }
