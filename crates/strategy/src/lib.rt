@@ -1,4 +1,6 @@
 // Strategies of the challenger (document 01, "Plans") as calls on a sheet, a start and a slice of 16-bit numbers.
+#![tactic(auto)]
+
 ghost use Rattle.std.specs.Prelude.{◌≡◌, ◌≤◌, ◌<◌, length};
 ghost use Rattle.lts.specs.Strategy.{entries_of, entry_numbers};
 ghost use Rattle.encoding.specs.Denotation.{lts_of};

@@ -1,0 +1,23 @@
+use mathlib.Core.Path.{sym, ◌∙◌, ap}
+use Rattle.encoding.specs.declared.Header.{Header}
+use Rattle.inputs.proofs.Laws.{kept-ready, pair-broken, pair-kept, pair-inputs, pair-states}
+use Rattle.strategy.proofs.Writes.{unready, on-system}
+use Rattle.strategy.proofs.Promise.{write_meets}
+use Rattle.strategy.proofs.write_strategy.Goals as goal
+
+pub write_loaded-requires : goal.write_loaded-requires
+write_loaded-requires c =
+    let k = pair-kept _ _ _ _ (sym c.in-Readable.ensures) in
+    let b = pair-states _ _ _ _ k.1 k.0 in
+    (kept-ready _ _ k.1 (pair-inputs _ _ _ _ k.0), b.0, b.1)
+
+pub returns-in-Refused : goal.returns-in-Refused
+returns-in-Refused c =
+    let m = write_meets _ _ _ _ _ (unready _ _ _ _ _ (pair-broken _ _ _ _ (sym c.in-Refused.ensures))) in
+    record { numbers_value = m.0; write_promise = m.1 }
+
+pub returns-in-Readable : goal.returns-in-Readable
+returns-in-Readable c =
+    let k = pair-kept c.args.s.now c.args.start.now c.args.p c.args.q (sym c.in-Readable.ensures) in
+    let m = write_meets _ _ _ _ _ (on-system _ _ _ _ _ _ (ap (λ (h : Header). h.states) k.1) k.0 ∙ c.write_loaded.ensures) in
+    record { numbers_value = m.0; write_promise = m.1 }
