@@ -1,4 +1,6 @@
 // The bounded game (document 01, "Hand play"): the challenger's and the defender's turns call each other, the rounds left falling.
+#![tactic(auto)]
+
 ghost use Rattle.std.specs.Prelude.{◌≡◌, ◌<◌, ◌≤◌, ◌-◌};
 ghost use Rattle.lts.specs.Game.{challenger_wins, defender_loses};
 ghost use Rattle.encoding.specs.Checked.{ReadableAs};
