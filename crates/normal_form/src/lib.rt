@@ -1,4 +1,6 @@
 // The writer of the normal form (document 01, "The sheet"; document 02, L2), and normalise.
+#![tactic(auto)]
+
 ghost use Rattle.std.specs.Prelude.{◌+◌, ◌<◌, ◌≤◌, ◌≡◌, ◌++◌, length, drop};
 ghost use Rattle.std.proofs.lemmas.List.Edits.{sets};
 ghost use Rattle.lts.specs.Rule.{checked_reply};
