@@ -1,12 +1,10 @@
 -- Demand 3's clauses about what coarsest answers and leaves in its buffers: they follow from the call's equations.
-use Prim.Native.Nat.{ℕ, ◌*◌, ◌-◌, ◌≤◌, ◌<◌}
+use Prim.Native.Nat.{ℕ, ◌<◌}
 use native.Mathlib.Omega.{arith}
-use mathlib.Core.Path.{◌≡◌, refl, sym, ap, subst, subst₂, fun_ext, ◌∙◌}
-use mathlib.Core.Bool.{not}
+use mathlib.Core.Path.{◌≡◌, refl, sym, ap, subst, fun_ext, ◌∙◌}
 use mathlib.Core.List.{List, [], ◌∷◌}
 use lib.Dec.{T}
 use lib.ListN.{length, get_or}
-use borrow.Author.Tests.{eq-eqb}
 use Rattle.lts.specs.Bounded.{lowest, restrict}
 use Rattle.lts.specs.System.{Rel, Lts, WellFormed}
 use Rattle.lts.specs.Refinement.{block, pair_count, block_count, representative, representatives as representatives_of, coarsest}
@@ -25,8 +23,7 @@ use Rattle.inputs.proofs.Laws.{kept-ready}
 use Rattle.encoding.specs.Denotation.{lts_of}
 use Rattle.encoding.proofs.Reader.{reads}
 use Rattle.encoding.proofs.Laws.{denoted}
-use Rattle.rows.specs.Rows.{row_words}
-use Rattle.relation.specs.Matrix.{relation_of, matrix_of, Matrix}
+use Rattle.relation.specs.Matrix.{relation_of, matrix_of}
 use Rattle.lts.proofs.Below.{length-list_below, get_or-list_below}
 use Rattle.relation.proofs.Matrices.{relation-of, formed-of}
 use Rattle.relation.proofs.Checks.{checked-reflexive, checked-transitive}

@@ -12,7 +12,6 @@ use Rattle.encoding.specs.Denotation.{lts_of}
 use Rattle.rows.specs.Rows.{row_words}
 use Rattle.relation.specs.Matrix.{relation_of, matrix_of, Matrix}
 use Rattle.inputs.specs.Inputs.{input_rules}
-use Rattle.coarsest.specs.declared.Counts.{Counts}
 use Rattle.coarsest.specs.declared.Answer.{Answer}
 use Rattle.coarsest.specs.declared.Answer.TheVariants.{Done, Refused}
 

@@ -1,4 +1,6 @@
 // Coarsest (document 01, "Turns"): the coarsest simulation inside a preorder, with the steps, pairs and blocks of its run.
+#![tactic(auto)]
+
 ghost use Rattle.std.specs.Prelude.{◌≡◌, ◌*◌, ◌≤◌, length};
 ghost use Rattle.encoding.specs.Denotation.{lts_of};
 ghost use Rattle.rows.specs.Rows.{row_words};
