@@ -1,4 +1,6 @@
 // Old sheets to named ones and back (document 02, L3). The page and move records stay as they are: no normal form is written.
+#![tactic(auto)]
+
 ghost use Rattle.std.specs.Prelude.{◌-◌, ◌≤◌, ◌≡◌, [], ◌∷◌, ◌++◌, length, take, drop};
 ghost use Rattle.std.proofs.lemmas.List.Edits.{sets};
 ghost use Rattle.lts.specs.declared.Refusal.TheVariants.{Buffer};
