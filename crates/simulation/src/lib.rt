@@ -1,4 +1,6 @@
 // The calls end start and test simulation (document 01, "Grids"), and ready start (document 02, L6).
+#![tactic(auto)]
+
 ghost use Rattle.std.specs.Prelude.{◌≡◌, ◌*◌, length};
 ghost use Rattle.lts.specs.System.{termination_preorder};
 ghost use Rattle.lts.specs.Ready.{ready_preorder};
