@@ -1,5 +1,7 @@
 // Compare (document 01, "Hand play and comparison"): whether the second encoding's system simulates the first's, by the coarsest
 // simulation of their disjoint union.
+#![tactic(auto)]
+
 ghost use Rattle.std.specs.Prelude.{◌≡◌, cond, [], ◌∷◌, ◌*◌, ◌<◌, ◌≤◌, length};
 ghost use Rattle.lts.specs.System.{termination_preorder};
 ghost use Rattle.lts.specs.Refinement.{coarsest};
