@@ -1,5 +1,7 @@
 // The check of a strategy (document 01, "Check plan") whose entries come one by one, for callers that have them in another form than
 // numbers. A mark for each pair of the entries so far stands in for the search over them.
+#![tactic(auto)]
+
 ghost use Rattle.std.specs.Prelude.{◌≡◌, cond, ◌&&◌, ◌<◌, ◌≤◌, length};
 ghost use Rattle.lts.specs.Game.{defender_loses};
 ghost use Rattle.transitions.specs.Table.{states_of, table_lts, Formed};

@@ -24,10 +24,6 @@ offset_bounds-grid-at c = omega (arith, room c)
 pub slice_bounds-row_intersect-count : goal.slice_bounds-row_intersect-count
 slice_bounds-row_intersect-count c = omega (arith, room c)
 
--- UNMATCHED slice-bounds-row-intersect-start
--- part-row-intersect-start : tie.Need-slice-bounds-row-intersect-start
--- part-row-intersect-start c = omega (arith, room c)
-
 pub row_intersect-requires : goal.row_intersect-requires
 row_intersect-requires c = (simp (tail-part, length-drop) (omega (arith, room (goal.at.row_intersect-requires c).After-row_words-w)), omega (arith, c.row_words-w.ensures, c.requires.3))
 

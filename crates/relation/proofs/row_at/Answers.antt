@@ -22,10 +22,6 @@ offset_bounds-grid-at c = omega (arith, room c)
 pub slice_bounds-result-count : goal.slice_bounds-result-count
 slice_bounds-result-count c = omega (arith, room c)
 
--- UNMATCHED slice-bounds-result-start
--- part-result-start : tie.Need-slice-bounds-result-start
--- part-result-start c = omega (arith, room c)
-
 pub returns : goal.returns
 returns c =
     tail-part (c.args.p * c.row_words-w.result) c.args.grid.now ∙ ap (λ (w : ℕ). drop (c.args.p * w) c.args.grid.now) c.row_words-w.ensures

@@ -30,10 +30,6 @@ offset_bounds-grid-at c = omega (arith, room c)
 pub slice_bounds-row_copy-count : goal.slice_bounds-row_copy-count
 slice_bounds-row_copy-count c = omega (arith, room c)
 
--- UNMATCHED slice-bounds-row-copy-start
--- part-row-copy-start : tie.Need-slice-bounds-row-copy-start invariant-loop decreases-loop
--- part-row-copy-start c = omega (arith, room c)
-
 pub row_copy-requires : goal.row_copy-requires
 row_copy-requires c = (simp (tail-part, length-drop) (omega (arith, room (goal.at.row_copy-requires c).In-loop-p)), omega (arith, c.row_words-w.ensures, c.requires.0))
 
