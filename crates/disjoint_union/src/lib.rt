@@ -1,4 +1,6 @@
 // Join: the joined flow of two sheets, which compare runs on, as a normal sheet.
+#![tactic(auto)]
+
 ghost use Rattle.std.specs.Prelude.{◌≡◌, ◌≤◌, length, take};
 ghost use Rattle.encoding.specs.Labels.{labels_in, records_of};
 ghost use Rattle.labels.specs.Maps.{Matches};

@@ -1,6 +1,6 @@
 -- The run of steps: it begins in the invariant, ends with nothing pending, and its K is then the coarsest simulation inside the preorder.
 use Prim.Native.Nat.{ℕ, zero, suc, ◌+◌, ◌*◌, ◌-◌, ◌%◌, ◌≤◌, ◌<◌}
-use native.Mathlib.Nat.{le_refl, le_antisymm, not-suc-le-zero, le_of_suc-le-suc, mod-lt, zero-add}
+use native.Mathlib.Nat.{le_refl, le_antisymm, not-suc-le-zero, le_of_suc-le-suc, mod-lt}
 use native.Mathlib.Omega.{arith}
 use mathlib.Core.Path.{◌≡◌, refl, sym, ◌∙◌, ap, subst, fun_ext}
 use mathlib.Core.Logic.{◌⊎◌, inl, inr, ◌↔◌}
@@ -9,7 +9,7 @@ use mathlib.Core.List.{List}
 use lib.Dec.{T, eqb, eqb_refl}
 use lib.ListN.{length, get_or}
 use Rattle.lts.specs.Bounded.{◌⇒◌, count_below, passing, lowest}
-use Rattle.lts.specs.System.{Rel, Lts, WellFormed, any_state, all_actions, into, is_simulation, Relation, Simulation}
+use Rattle.lts.specs.System.{Rel, Lts, WellFormed, any_state, all_actions, into, Relation, Simulation}
 use Rattle.lts.specs.Refinement.{Relations, Run, block, representative, is_representative, initial, pending, step_of, chosen, step, run, coarsest, pair_count}
 use Rattle.lts.proofs.Bounded.{and-iff, imp-iff, dec, test-ext, any-iff, all-iff, restrict-iff}
 use Rattle.lts.proofs.Count.{sum-le, sum_lt, sum-most, sum-least, count-le, count-lt, count_most, count-least, passing-at, passing-some, lowest-passes, lowest-least}
