@@ -1,4 +1,6 @@
 // Coarsest on bytes (document 01, "Hand play and comparison"): grids, turn lists and block names are carried as bytes, low byte first.
+#![tactic(auto)]
+
 ghost use Rattle.std.specs.Prelude.{◌≡◌, ◌<◌, ◌≤◌, length};
 ghost use Rattle.encoding.specs.Records.{header_of};
 ghost use Rattle.carry.specs.Carried.{list_of};
