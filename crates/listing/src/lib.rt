@@ -1,4 +1,6 @@
 // The whole text that the program flowcheck prints for a sheet (document 01, "Flows on each side"), written into a lent buffer.
+#![tactic(auto)]
+
 ghost use Rattle.std.specs.Prelude.{◌≡◌, [], ◌++◌, ◌*◌, ◌≤◌, length, drop};
 ghost use Rattle.lts.specs.System.{termination_preorder};
 ghost use Rattle.lts.specs.Refusal.{refusal_number};

@@ -1,5 +1,4 @@
 -- `load_grid` meets its contract, by the test of the bytes' length.
-use borrow.Author.Rules.{rules}
 use Rattle.carry.proofs.Bytes.{whole-few, loaded-none, loaded-whole}
 use Rattle.carry.proofs.load_grid.Goals as goal
 

@@ -1,11 +1,8 @@
 use Prim.Native.Nat.{◌-◌, ◌≤◌}
-use mathlib.Core.Path.{◌≡◌, refl}
+use mathlib.Core.Path.{◌≡◌}
 use mathlib.Core.List.{◌++◌}
-use native.Mathlib.Omega.{arith}
-use borrow.Author.Rules.{rules}
-use lib.ListN.{length, drop, length-set}
+use lib.ListN.{length, drop}
 use Rattle.carry.specs.Carried.{numbers_of}
-use Rattle.carry.proofs.Laws.{numbers_more, numbers-done}
 use Rattle.carry.proofs.load_numbers.Given as goal
 
 abbrev pub invariant-loop-i : goal.invariant-loop-i

@@ -2,7 +2,6 @@
 use mathlib.Core.Path.{sym, ◌∙◌}
 use native.Mathlib.Omega.{arith}
 use lib.Seq.{length-take-le}
-use borrow.Author.Rules.{rules}
 use Rattle.carry.proofs.Fronts.{cut_fits, schedule-cut}
 use Rattle.carry.proofs.load_schedule.Goals as goal
 

@@ -1,5 +1,4 @@
 -- `load_states` meets its contract, by the test of the bytes' length.
-use borrow.Author.Rules.{rules}
 use Rattle.carry.proofs.Bytes.{whole-few, loaded-none, loaded-whole}
 use Rattle.carry.proofs.load_states.Goals as goal
 

@@ -1,10 +1,8 @@
 -- `load_words`: the first i numbers are read, and the rest is as it was.
-use Prim.Native.Nat.{◌-◌, ◌≤◌}
-use mathlib.Core.Path.{◌≡◌, refl}
-use mathlib.Core.List.{◌++◌}
+use mathlib.Core.Path.{refl}
 use native.Mathlib.Omega.{arith}
 use borrow.Author.Rules.{rules}
-use lib.ListN.{length, drop, length-set}
+use lib.ListN.{length-set}
 use Rattle.carry.specs.Carried.{numbers_of}
 use Rattle.carry.proofs.Laws.{numbers_more, numbers-done}
 use Rattle.carry.proofs.load_words.Goals as goal

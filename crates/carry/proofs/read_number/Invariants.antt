@@ -1,11 +1,7 @@
-use Prim.Native.Nat.{◌+◌, ◌-◌, ◌^◌, ◌<◌, ◌≤◌}
+use Prim.Native.Nat.{◌-◌, ◌^◌, ◌<◌, ◌≤◌}
 use mathlib.Core.Path.{◌≡◌}
-use native.Mathlib.Omega.{arith}
-use borrow.Author.Rules.{rules}
-use lib.Dec.{lit<}
 use lib.Seq.{slice}
 use Rattle.carry.specs.Carried.{number_of}
-use Rattle.carry.proofs.Laws.{number-start, number-down, number-done, number_fits, bound-start, bound-down}
 use Rattle.carry.proofs.read_number.Given as goal
 
 abbrev pub invariant-loop-j : goal.invariant-loop-j

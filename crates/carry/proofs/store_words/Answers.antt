@@ -1,10 +1,7 @@
 -- `store_words`: the bytes of the first i numbers are written, and the rest is as it was.
-use Prim.Native.Nat.{◌-◌, ◌*◌, ◌≤◌}
-use mathlib.Core.Path.{◌≡◌, refl, ◌∙◌}
-use mathlib.Core.List.{◌++◌}
+use mathlib.Core.Path.{refl, ◌∙◌}
 use native.Mathlib.Omega.{arith}
 use borrow.Author.Rules.{rules}
-use lib.ListN.{length, take, drop}
 use Rattle.carry.specs.Carried.{bytes_of}
 use Rattle.carry.proofs.Laws.{bytes-more, bytes-done}
 use Rattle.carry.proofs.store_words.Goals as goal

@@ -1,12 +1,10 @@
 -- `write_number`: the bytes to j are written, those of x and the rest are still to come.
-use Prim.Native.Nat.{◌+◌, ◌-◌, ◌%◌, ◌≤◌}
+use Prim.Native.Nat.{◌+◌, ◌-◌, ◌%◌}
 use mathlib.Core.Path.{◌≡◌, refl, ◌∙◌}
-use mathlib.Core.List.{◌++◌}
 use native.Mathlib.Omega.{arith}
 use borrow.Author.Rules.{rules}
-use lib.ListN.{length, take, drop, length-set}
+use lib.ListN.{drop, length-set}
 use lib.Seq.{drop-set-lt}
-use Rattle.carry.specs.Carried.{digits}
 use Rattle.carry.proofs.Laws.{digits_more, digits-done}
 use Rattle.carry.proofs.write_number.Goals as goal
 

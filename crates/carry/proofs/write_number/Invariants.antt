@@ -1,12 +1,8 @@
-use Prim.Native.Nat.{◌+◌, ◌-◌, ◌%◌, ◌≤◌}
-use mathlib.Core.Path.{◌≡◌, refl, ◌∙◌}
+use Prim.Native.Nat.{◌-◌, ◌≤◌}
+use mathlib.Core.Path.{◌≡◌}
 use mathlib.Core.List.{◌++◌}
-use native.Mathlib.Omega.{arith}
-use borrow.Author.Rules.{rules}
-use lib.ListN.{length, take, drop, length-set}
-use lib.Seq.{drop-set-lt}
+use lib.ListN.{length, take, drop}
 use Rattle.carry.specs.Carried.{digits}
-use Rattle.carry.proofs.Laws.{digits_more, digits-done}
 use Rattle.carry.proofs.write_number.Given as goal
 
 abbrev pub invariant-loop-j : goal.invariant-loop-j

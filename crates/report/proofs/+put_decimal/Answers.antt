@@ -1,7 +1,7 @@
 -- `put_decimal`: a call of itself writes the digits of x / 10, and one digit more is written after them. The measure is x.
 use Prim.Native.Nat.{ℕ, ◌/◌, ◌<◌, ◌≤◌}
 use native.Mathlib.Omega.{arith}
-use lib.ListN.{length, length-append, length-set}
+use lib.ListN.{length, length-append}
 use Rattle.report.specs.Decimal.{decimal}
 use Rattle.report.proofs.Laws.{decimal-one, decimal-more, decimal-length, digit-one, digit-more}
 use Rattle.report.proofs.+put_decimal.Goals as goal

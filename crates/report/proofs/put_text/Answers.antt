@@ -1,11 +1,9 @@
 -- `put_text`: the first i bytes of the text are written.
-use Prim.Native.Nat.{◌-◌, ◌≤◌}
 use mathlib.Core.Path.{◌≡◌, refl, sym}
 use native.Mathlib.Omega.{arith}
 use borrow.Author.Rules.{rules}
-use lib.ListN.{length, take, length-set}
+use lib.ListN.{length, length-set}
 use lib.Seq.{take-length}
-use Rattle.report.specs.Decimal.{written}
 use Rattle.report.proofs.Laws.{written_none, written-copy}
 use Rattle.report.proofs.put_text.Goals as goal
 

@@ -1,7 +1,6 @@
 -- `rows::contains` meets its contract: the code is the definition. Assumes nothing.
 use mathlib.Core.Path.{refl}
 use Rattle.rows.specs.Rows.{bit, in_row}
-use borrow.Author.Rules.{rules}
 use Rattle.rows.proofs.contains.Goals as goal
 
 pub returns : goal.returns

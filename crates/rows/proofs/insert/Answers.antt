@@ -1,6 +1,5 @@
 -- `rows::insert` meets its contract: by `row-insert`. Assumes nothing.
 use Rattle.rows.proofs.Rows.{row-insert}
-use borrow.Author.Rules.{rules}
 use Rattle.rows.proofs.insert.Goals as goal
 
 pub returns : goal.returns

@@ -1,15 +1,13 @@
 -- `rows::lowest_state` meets its contract: by the trailing zeros of the first word that is not 0. Assumes nothing.
-use mathlib.Core.Path.{◌≡◌, ap, ◌∙◌}
-use mathlib.Core.Bool.{false}
-use Prim.Native.Nat.{ℕ, ◌≤◌, ◌<◌, ◌*◌, ◌-◌}
+use mathlib.Core.Path.{ap, ◌∙◌}
+use Prim.Native.Nat.{ℕ, ◌<◌}
 use native.Mathlib.Nat.{not-suc-le-zero}
 use Rattle.rows.proofs.Bits.{bit-of-zero}
 use Rattle.rows.proofs.Rows.{in_row-at, row_before}
 use native.Mathlib.Omega.{arith}
 use lib.Count.{count_trailing_zeros}
 use lib.ListN.{get_or}
-use Rattle.rows.specs.Rows.{bit, in_row}
-use Rattle.lts.specs.Bounded.{lowest}
+use Rattle.rows.specs.Rows.{bit}
 use Rattle.rows.proofs.Counts.{trailing_lt, trailing_at, trailing-before}
 use Rattle.lts.proofs.Below.{lowest-is, lowest-none}
 use borrow.Author.Rules.{rules}

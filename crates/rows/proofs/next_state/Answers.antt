@@ -1,8 +1,7 @@
 -- `rows::next_state` meets its contract: by the trailing zeros of the first rest of a word that is not 0. Assumes nothing.
 use mathlib.Core.Path.{◌≡◌, ap, ◌∙◌}
-use mathlib.Core.Bool.{false}
 use mathlib.Core.Logic.{⊎_elim}
-use Prim.Native.Nat.{ℕ, ◌≤◌, ◌<◌, ◌*◌, ◌+◌, ◌-◌, ◌/◌, ◌%◌}
+use Prim.Native.Nat.{◌≤◌, ◌<◌, ◌+◌, ◌-◌, ◌/◌, ◌%◌}
 use Rattle.lts.proofs.Below.{lt-or-ge}
 use native.Mathlib.Omega.{arith}
 use lib.Count.{count_trailing_zeros}

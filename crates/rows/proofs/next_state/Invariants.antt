@@ -1,13 +1,7 @@
-use mathlib.Core.Path.{◌≡◌, ap, ◌∙◌}
+use mathlib.Core.Path.{◌≡◌}
 use mathlib.Core.Bool.{false}
-use mathlib.Core.Logic.{⊎_elim}
-use Prim.Native.Nat.{ℕ, ◌≤◌, ◌<◌, ◌*◌, ◌+◌, ◌-◌, ◌/◌, ◌%◌}
-use Rattle.lts.proofs.Below.{lt-or-ge}
-use native.Mathlib.Omega.{arith}
-use lib.Count.{count_trailing_zeros}
+use Prim.Native.Nat.{ℕ, ◌≤◌, ◌<◌, ◌*◌, ◌-◌}
 use Rattle.rows.specs.Rows.{in_row}
-use Rattle.rows.proofs.Counts.{rest, rest-none, rest_lt, rest_at, rest-before}
-use borrow.Author.Rules.{rules}
 use Rattle.rows.proofs.next_state.Given as goal
 
 abbrev pub invariant-loop-q : goal.invariant-loop-q

@@ -1,11 +1,8 @@
 -- `rows::row_copy` meets its contract: by `row_more`. Assumes nothing.
-use mathlib.Core.Path.{◌≡◌, sym}
-use mathlib.Core.List.{◌++◌}
-use Prim.Native.Nat.{◌≤◌, ◌-◌}
+use mathlib.Core.Path.{sym}
 use native.Mathlib.Omega.{arith}
-use lib.ListN.{length, drop, length-set}
+use lib.ListN.{length-set}
 use Rattle.lts.specs.Bounded.{list_below}
-use Rattle.rows.specs.Rows.{in_row, row_of}
 use Rattle.rows.proofs.Rows.{in_row-at, row_more, row_done}
 use borrow.Author.Rules.{rules}
 use Rattle.rows.proofs.row_copy.Goals as goal

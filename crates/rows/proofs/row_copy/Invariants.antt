@@ -1,12 +1,8 @@
-use mathlib.Core.Path.{◌≡◌, sym}
+use mathlib.Core.Path.{◌≡◌}
 use mathlib.Core.List.{◌++◌}
 use Prim.Native.Nat.{◌≤◌, ◌-◌}
-use native.Mathlib.Omega.{arith}
-use lib.ListN.{length, drop, length-set}
-use Rattle.lts.specs.Bounded.{list_below}
+use lib.ListN.{length, drop}
 use Rattle.rows.specs.Rows.{in_row, row_of}
-use Rattle.rows.proofs.Rows.{in_row-at, row_more, row_done}
-use borrow.Author.Rules.{rules}
 use Rattle.rows.proofs.row_copy.Given as goal
 
 abbrev pub invariant-loop-c : goal.invariant-loop-c

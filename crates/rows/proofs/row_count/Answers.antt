@@ -1,11 +1,9 @@
 -- `rows::row_count` meets its contract: the ones of the words, summed, are the states. Assumes nothing.
-use mathlib.Core.Path.{◌≡◌, ◌∙◌}
-use Prim.Native.Nat.{◌≤◌, ◌<◌, ◌*◌, ◌-◌, ◌^◌}
+use mathlib.Core.Path.{◌∙◌}
+use Prim.Native.Nat.{◌<◌, ◌^◌}
 use native.Mathlib.Omega.{arith}
 use lib.Count.{ones-le}
 use lib.ListN.{get_or}
-use Rattle.rows.specs.Rows.{bit}
-use Rattle.lts.specs.Bounded.{sum_below, count_below}
 use Rattle.rows.proofs.Counts.{ones-count, bits-states}
 use Rattle.lts.proofs.Below.{sum-none, sum_more, sum_done}
 use borrow.Author.Rules.{rules}

@@ -1,13 +1,8 @@
-use mathlib.Core.Path.{◌≡◌, ◌∙◌}
-use Prim.Native.Nat.{◌≤◌, ◌<◌, ◌*◌, ◌-◌, ◌^◌}
-use native.Mathlib.Omega.{arith}
-use lib.Count.{ones-le}
+use mathlib.Core.Path.{◌≡◌}
+use Prim.Native.Nat.{◌≤◌, ◌*◌, ◌-◌}
 use lib.ListN.{get_or}
 use Rattle.rows.specs.Rows.{bit}
 use Rattle.lts.specs.Bounded.{sum_below, count_below}
-use Rattle.rows.proofs.Counts.{ones-count, bits-states}
-use Rattle.lts.proofs.Below.{sum-none, sum_more, sum_done}
-use borrow.Author.Rules.{rules}
 use Rattle.rows.proofs.row_count.Given as goal
 
 abbrev pub invariant-loop-c : goal.invariant-loop-c

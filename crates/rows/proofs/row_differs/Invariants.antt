@@ -1,12 +1,7 @@
 use mathlib.Core.Path.{◌≡◌}
 use Prim.Native.Nat.{ℕ, ◌≤◌, ◌<◌, ◌*◌, ◌-◌}
-use native.Mathlib.Nat.{not-suc-le-zero}
-use native.Mathlib.Omega.{arith}
 use Rattle.rows.specs.Rows.{in_row}
 use mathlib.Core.Bool.{false, xor}
-use Rattle.rows.proofs.Rows.{xor-bitwise}
-use Rattle.rows.proofs.Tests.{word-found, word-passed, none_passed}
-use borrow.Author.Rules.{rules}
 use Rattle.rows.proofs.row_differs.Given as goal
 
 abbrev pub invariant-loop-c : goal.invariant-loop-c

@@ -1,13 +1,9 @@
-use borrow.Author.Rules.{rules}
 use mathlib.Core.Path.{◌≡◌}
 use mathlib.Core.Bool.{◌&&◌}
 use mathlib.Core.List.{◌++◌}
 use Prim.Native.Nat.{◌≤◌, ◌-◌}
-use native.Mathlib.Omega.{arith}
-use lib.ListN.{length, drop, length-set}
+use lib.ListN.{length, drop}
 use Rattle.rows.specs.Rows.{in_row, row_of}
-use Rattle.lts.specs.Bounded.{list_below}
-use Rattle.rows.proofs.Rows.{zip_more, and-bitwise, row_done}
 use Rattle.rows.proofs.row_intersect.Given as goal
 
 abbrev pub invariant-loop-c : goal.invariant-loop-c

@@ -1,12 +1,7 @@
 -- `rows::row_union` meets its contract, by `zip_more`. Assumes nothing.
 use borrow.Author.Rules.{rules}
-use mathlib.Core.Path.{◌≡◌}
-use mathlib.Core.Bool.{◌||◌}
-use mathlib.Core.List.{◌++◌}
-use Prim.Native.Nat.{◌≤◌, ◌-◌}
 use native.Mathlib.Omega.{arith}
-use lib.ListN.{length, drop, length-set}
-use Rattle.rows.specs.Rows.{in_row, row_of}
+use lib.ListN.{length-set}
 use Rattle.lts.specs.Bounded.{list_below}
 use Rattle.rows.proofs.Rows.{zip_more, or-bitwise, row_done}
 use Rattle.rows.proofs.row_union.Goals as goal

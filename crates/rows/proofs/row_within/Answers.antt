@@ -1,11 +1,9 @@
 -- `rows::row_within` meets its contract: by `word-found` and `word-passed`. Assumes nothing.
 use Rattle.rows.proofs.Rows.{minus-bitwise}
-use mathlib.Core.Bool.{false, not, ◌&&◌}
-use mathlib.Core.Path.{◌≡◌, ap, ◌∙◌}
-use Prim.Native.Nat.{ℕ, ◌≤◌, ◌<◌, ◌*◌, ◌-◌}
+use mathlib.Core.Bool.{not}
+use mathlib.Core.Path.{ap, ◌∙◌}
 use native.Mathlib.Nat.{not-suc-le-zero}
 use native.Mathlib.Omega.{arith}
-use Rattle.rows.specs.Rows.{in_row}
 use Rattle.rows.proofs.Tests.{word-found, word-passed, none_passed, included-any}
 use borrow.Author.Rules.{rules}
 use Rattle.rows.proofs.row_within.Goals as goal

@@ -1,12 +1,7 @@
-use Rattle.rows.proofs.Rows.{minus-bitwise}
 use mathlib.Core.Bool.{false, not, ◌&&◌}
-use mathlib.Core.Path.{◌≡◌, ap, ◌∙◌}
+use mathlib.Core.Path.{◌≡◌}
 use Prim.Native.Nat.{ℕ, ◌≤◌, ◌<◌, ◌*◌, ◌-◌}
-use native.Mathlib.Nat.{not-suc-le-zero}
-use native.Mathlib.Omega.{arith}
 use Rattle.rows.specs.Rows.{in_row}
-use Rattle.rows.proofs.Tests.{word-found, word-passed, none_passed, included-any}
-use borrow.Author.Rules.{rules}
 use Rattle.rows.proofs.row_within.Given as goal
 
 abbrev pub invariant-loop-c : goal.invariant-loop-c

@@ -1,11 +1,8 @@
-use mathlib.Core.Path.{◌≡◌, refl, ap, ◌∙◌}
+use mathlib.Core.Path.{◌≡◌}
 use Prim.Native.Nat.{ℕ, ◌≤◌, ◌-◌}
-use native.Mathlib.Omega.{arith}
 use lib.Dec.{eqb}
 use lib.ListN.{length, replicate}
-use Rattle.lts.proofs.Below.{length-list_below}
-use Rattle.rows.proofs.Rows.{gathered, gather_none, gather-in, gathered-below, get_or-zeros}
-use borrow.Author.Rules.{rules}
+use Rattle.rows.proofs.Rows.{gathered}
 use Rattle.rows.proofs.states_below.Given as goal
 
 abbrev pub invariant-loop-q : goal.invariant-loop-q
