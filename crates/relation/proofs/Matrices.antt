@@ -1,6 +1,6 @@
 -- Laws of matrices: a matrix and its relation determine each other below n, and what a matrix is once a row has been written. Assumes nothing.
 use mathlib.Core.Path.{◌≡◌, refl, sym, ap, ap₂, ◌∙◌, subst, subst⁻¹}
-use mathlib.Core.Bool.{Bool, true, false, not, ◌&&◌, cond}
+use mathlib.Core.Bool.{Bool, true, false, ◌&&◌, cond}
 use mathlib.Core.List.{List, ◌++◌, append_assoc, append-nil}
 use mathlib.Core.Logic.{⊎_elim}
 use Prim.Native.Nat.{ℕ, zero, suc, ◌+◌, ◌-◌, ◌*◌, ◌/◌, ◌%◌, ◌^◌, ◌≤◌, ◌<◌}
@@ -11,7 +11,7 @@ use lib.Arith.{digits_div, digits_mod, digits_lt}
 use lib.ListN.{length, get_or, take, drop, length-append, get_or-append, length-drop, drop_of_length-le}
 use lib.Seq.{get_or-drop, get_or-take, get_or-append-add, length-take-le, take_at, drop_at, drop-drop}
 use borrow.Rule.Slice.PartMut.{put_mid}
-use borrow.Author.Tests.{eqb-true, lt-ltb, le-ltb, eq-eqb, ne_eqb}
+use borrow.Author.Tests.{lt-ltb, le-ltb, eq-eqb, ne_eqb}
 use Rattle.rows.specs.Rows.{bit, in_row, word_at, row_of, row_words, states_below}
 use Rattle.relation.specs.Matrix.{in_matrix, relation_of, matrix_word, matrix_of, Matrix, set_row, rows_of}
 use Rattle.lts.specs.Bounded.{list_below}

@@ -1,5 +1,5 @@
 -- Relations as bit matrices of rows of words (document 01, "Grids").
-use Rattle.std.specs.Prelude.{◌≡◌, false, cond, not, ◌&&◌, List, ℕ, ◌+◌, ◌*◌, ◌/◌, ◌%◌, ◌<◌, ◌≤◌, eqb, ltb, length, get_or}
+use Rattle.std.specs.Prelude.{◌≡◌, false, cond, List, ℕ, ◌+◌, ◌*◌, ◌/◌, ◌%◌, ◌<◌, ◌≤◌, eqb, ltb, length, get_or}
 use Rattle.lts.specs.Bounded.{sum_below, count_below, list_below}
 use Rattle.lts.specs.System.{Set, Rel}
 use Rattle.rows.specs.Rows.{bit, word_at, row_words, states_below}

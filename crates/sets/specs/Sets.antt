@@ -1,5 +1,5 @@
 -- Lists of sets of 256 states, four words a set.
-use Rattle.std.specs.Prelude.{ℕ, ◌+◌, ◌*◌, ◌/◌, ◌%◌, ◌<◌, ◌≤◌, ◌≡◌, Bool, true, false, cond, List, eqb, length}
+use Rattle.std.specs.Prelude.{ℕ, ◌+◌, ◌*◌, ◌/◌, ◌%◌, false, cond, List, eqb}
 use Rattle.lts.specs.System.{Set, Rel}
 use Rattle.rows.specs.Rows.{bit, in_row, row_of}
 

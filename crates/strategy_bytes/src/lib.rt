@@ -1,4 +1,6 @@
 // Strategies carried as bytes (document 01, "Plans"): four 16-bit numbers an entry, low byte first.
+#![tactic(auto)]
+
 ghost use Rattle.std.specs.Prelude.{◌≡◌, ◌≤◌, ◌+◌, ◌*◌, length, get_or};
 ghost use Rattle.strategy.specs.Check.{check_reply, check_call, CheckPromise};
 ghost use Rattle.strategy.specs.Write.{write_reply, write_call, WritePromise};

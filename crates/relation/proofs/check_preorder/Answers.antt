@@ -1,10 +1,8 @@
 -- `relation::check_preorder` meets its contract: by the answers of the three tests. Assumes nothing.
 use mathlib.Core.Path.{refl, sym, ◌∙◌}
-use borrow.Author.Tests.{not-false}
 use Rattle.lts.proofs.Rule.{After, stop, pass, done, check-refused, check-passed}
 use Rattle.relation.specs.Check.{start_rules}
 use Rattle.relation.proofs.Checks.{matrix-test}
-use borrow.Author.Rules.{rules}
 use mathlib.Core.Path.{ap}
 use mathlib.Core.Bool.{not}
 use Rattle.relation.proofs.check_preorder.Goals.{Else-not-is_matrix, Else-not-is_reflexive}

@@ -1,9 +1,9 @@
 -- `relation::copy_matrix` meets its contract: word by word. Assumes nothing.
-use mathlib.Core.Path.{◌≡◌, refl, ap, ◌∙◌}
-use mathlib.Core.List.{List, ◌++◌}
-use Prim.Native.Nat.{ℕ, ◌≤◌, ◌-◌}
+use mathlib.Core.Path.{refl, ap, ◌∙◌}
+use mathlib.Core.List.{List}
+use Prim.Native.Nat.{ℕ}
 use native.Mathlib.Omega.{arith}
-use lib.ListN.{length, drop, set, length-set, get_or}
+use lib.ListN.{set, length-set, get_or}
 use Rattle.lts.specs.Bounded.{list_below}
 use Rattle.lts.proofs.Below.{fill_more, fill-copied}
 use borrow.Author.Rules.{rules}

@@ -1,11 +1,8 @@
-use mathlib.Core.Path.{◌≡◌, refl, ap, ◌∙◌}
-use mathlib.Core.List.{List, ◌++◌}
-use Prim.Native.Nat.{ℕ, ◌≤◌, ◌-◌}
-use native.Mathlib.Omega.{arith}
-use lib.ListN.{length, drop, set, length-set, get_or}
+use mathlib.Core.Path.{◌≡◌}
+use mathlib.Core.List.{◌++◌}
+use Prim.Native.Nat.{◌≤◌, ◌-◌}
+use lib.ListN.{length, drop, get_or}
 use Rattle.lts.specs.Bounded.{list_below}
-use Rattle.lts.proofs.Below.{fill_more, fill-copied}
-use borrow.Author.Rules.{rules}
 use Rattle.relation.proofs.copy_matrix.Given as goal
 
 abbrev pub invariant-loop-j : goal.invariant-loop-j

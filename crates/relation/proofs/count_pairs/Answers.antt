@@ -1,11 +1,9 @@
 -- `relation::count_pairs` meets its contract: the ones of the words, summed, are the pairs. Assumes nothing.
-use mathlib.Core.Path.{◌≡◌, ◌∙◌}
-use Prim.Native.Nat.{◌≤◌, ◌<◌, ◌*◌, ◌-◌, ◌^◌}
+use mathlib.Core.Path.{◌∙◌}
+use Prim.Native.Nat.{◌≤◌, ◌<◌, ◌^◌}
 use native.Mathlib.Omega.{arith}
 use lib.Count.{ones-le}
 use lib.ListN.{length, get_or}
-use Rattle.rows.specs.Rows.{bit}
-use Rattle.lts.specs.Bounded.{sum_below, count_below}
 use Rattle.rows.proofs.Counts.{ones-count}
 use Rattle.relation.proofs.Counts.{bits-pairs}
 use Rattle.lts.proofs.Below.{sum-none, sum_more, sum_done}

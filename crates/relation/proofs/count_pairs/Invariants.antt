@@ -1,15 +1,8 @@
-use mathlib.Core.Path.{◌≡◌, ◌∙◌}
-use Prim.Native.Nat.{◌≤◌, ◌<◌, ◌*◌, ◌-◌, ◌^◌}
-use native.Mathlib.Omega.{arith}
-use lib.Count.{ones-le}
+use mathlib.Core.Path.{◌≡◌}
+use Prim.Native.Nat.{◌≤◌, ◌*◌, ◌-◌}
 use lib.ListN.{length, get_or}
 use Rattle.rows.specs.Rows.{bit}
 use Rattle.lts.specs.Bounded.{sum_below, count_below}
-use Rattle.rows.proofs.Counts.{ones-count}
-use Rattle.relation.proofs.Counts.{bits-pairs}
-use Rattle.lts.proofs.Below.{sum-none, sum_more, sum_done}
-use Rattle.relation.proofs.Matrices.{matrix-small}
-use borrow.Author.Rules.{rules}
 use Rattle.relation.proofs.count_pairs.Given as goal
 
 abbrev pub invariant-loop-j : goal.invariant-loop-j

@@ -1,5 +1,4 @@
 -- `relation::has` meets its contract: the code is the definition. Assumes nothing.
-use borrow.Author.Rules.{rules}
 use mathlib.Core.Path.{refl}
 use Rattle.rows.specs.Rows.{bit}
 use Rattle.relation.specs.Matrix.{in_matrix}

@@ -1,13 +1,7 @@
 -- `relation::is_matrix` meets its contract: the length, then each row. Assumes nothing.
-use mathlib.Core.Path.{◌≡◌, sym, ◌∙◌}
-use mathlib.Core.Bool.{true}
-use Prim.Native.Nat.{ℕ, ◌≤◌, ◌<◌, ◌*◌, ◌-◌}
+use mathlib.Core.Path.{sym, ◌∙◌}
 use native.Mathlib.Omega.{arith}
-use lib.ListN.{length}
 use borrow.Author.Count.{below_none, below_more}
-use borrow.Author.Tests.{not-true, not-false}
-use Rattle.rows.specs.Rows.{row_words}
-use Rattle.relation.specs.Check.{clear_at}
 use Rattle.relation.proofs.Checks.{wrong-length, right-length}
 use Rattle.lts.proofs.Below.{all_yes, all-not}
 use borrow.Author.Rules.{rules}

@@ -1,15 +1,9 @@
-use mathlib.Core.Path.{◌≡◌, sym, ◌∙◌}
+use mathlib.Core.Path.{◌≡◌}
 use mathlib.Core.Bool.{true}
 use Prim.Native.Nat.{ℕ, ◌≤◌, ◌<◌, ◌*◌, ◌-◌}
-use native.Mathlib.Omega.{arith}
 use lib.ListN.{length}
-use borrow.Author.Count.{below_none, below_more}
-use borrow.Author.Tests.{not-true, not-false}
 use Rattle.rows.specs.Rows.{row_words}
 use Rattle.relation.specs.Check.{clear_at}
-use Rattle.relation.proofs.Checks.{wrong-length, right-length}
-use Rattle.lts.proofs.Below.{all_yes, all-not}
-use borrow.Author.Rules.{rules}
 use Rattle.relation.proofs.is_matrix.Given as goal
 
 abbrev pub invariant-loop-p : goal.invariant-loop-p

@@ -1,11 +1,7 @@
 -- `relation::is_reflexive` meets its contract: state by state. Assumes nothing.
-use mathlib.Core.Path.{◌≡◌, sym, ◌∙◌}
-use mathlib.Core.Bool.{true}
-use Prim.Native.Nat.{ℕ, ◌≤◌, ◌<◌, ◌-◌}
+use mathlib.Core.Path.{sym, ◌∙◌}
 use native.Mathlib.Omega.{arith}
 use borrow.Author.Count.{below_none, below_more}
-use borrow.Author.Tests.{not-true, not-false}
-use Rattle.relation.specs.Matrix.{relation_of}
 use Rattle.relation.specs.Check.{reflexive_below}
 use Rattle.lts.proofs.Below.{all_yes, all-not}
 use borrow.Author.Rules.{rules}

@@ -1,11 +1,9 @@
 -- `relation::is_transitive` meets its contract: state by state, from the last down. Assumes nothing.
 use mathlib.Core.Path.{◌≡◌, sym, ap, ◌∙◌}
-use mathlib.Core.Bool.{true}
 use mathlib.Core.Logic.{⊎_elim}
-use Prim.Native.Nat.{ℕ, ◌-◌, ◌≤◌, ◌<◌}
+use Prim.Native.Nat.{◌-◌, ◌<◌}
 use native.Mathlib.Nat.{eq-or-lt_of_le}
 use native.Mathlib.Omega.{arith}
-use borrow.Author.Tests.{not-true, not-false}
 use Rattle.relation.specs.Matrix.{relation_of}
 use Rattle.relation.specs.Check.{transitive_at, transitive_below}
 use Rattle.lts.proofs.Below.{all_yes, all-not}

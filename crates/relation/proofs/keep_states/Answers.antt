@@ -7,7 +7,6 @@ use lib.ListN.{length, length-drop}
 use Rattle.rows.specs.Rows.{in_row}
 use Rattle.relation.proofs.Matrices.{row_fits, row-zipped}
 use Rattle.rows.proofs.Rows.{tail-part}
-use borrow.Author.Rules.{rules}
 use Rattle.relation.proofs.keep_states.Goals.{After-row_words-w}
 use Rattle.relation.proofs.keep_states.Goals as goal
 

@@ -4,7 +4,6 @@ use Prim.Native.Nat.{ℕ, ◌*◌}
 use native.Mathlib.Omega.{arith}
 use Rattle.rows.specs.Rows.{row_words}
 use Rattle.relation.proofs.Matrices.{matrix-small}
-use borrow.Author.Rules.{rules}
 use Rattle.relation.proofs.matrix_words.Goals.{After-row_words}
 use Rattle.relation.proofs.matrix_words.Goals as goal
 

@@ -4,7 +4,6 @@ use Prim.Native.Nat.{ℕ, ◌+◌, ◌*◌, ◌/◌, ◌<◌}
 use lib.ListN.{length}
 use Rattle.relation.specs.Matrix.{in_matrix}
 use Rattle.relation.proofs.Matrices.{pair-word}
-use borrow.Author.Rules.{rules}
 use Rattle.relation.proofs.relates.Goals as goal
 
 pub has-requires : goal.has-requires

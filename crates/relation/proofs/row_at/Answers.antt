@@ -5,7 +5,6 @@ use native.Mathlib.Omega.{arith}
 use lib.ListN.{length, drop}
 use Rattle.relation.proofs.Matrices.{row_fits}
 use Rattle.rows.proofs.Rows.{tail-part}
-use borrow.Author.Rules.{rules}
 use Rattle.relation.proofs.row_at.Goals.{After-row_words-w}
 use Rattle.relation.proofs.row_at.Goals as goal
 

@@ -9,7 +9,6 @@ use lib.Seq.{get_or-drop}
 use Rattle.rows.specs.Rows.{row_words}
 use Rattle.relation.proofs.Matrices.{row-long}
 use Rattle.relation.proofs.Checks.{clear-full, clear-last}
-use borrow.Author.Rules.{rules}
 use Rattle.relation.proofs.row_formed.Goals.{After-row_at-row}
 use Rattle.relation.proofs.row_formed.Goals as goal
 

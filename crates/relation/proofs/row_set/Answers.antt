@@ -5,7 +5,6 @@ use native.Mathlib.Omega.{arith}
 use lib.ListN.{replicate}
 use Rattle.rows.proofs.Rows.{get_or-zeros}
 use Rattle.relation.proofs.Rows.{copied-row, row_words_lem}
-use borrow.Author.Rules.{rules}
 use Rattle.relation.proofs.row_set.Goals as goal
 
 pub row_copy-requires : goal.row_copy-requires

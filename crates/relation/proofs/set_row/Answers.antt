@@ -5,7 +5,6 @@ use lib.ListN.{length, length-drop}
 use Rattle.rows.specs.Rows.{in_row}
 use Rattle.relation.proofs.Matrices.{row_fits, row_written}
 use Rattle.rows.proofs.Rows.{tail-part}
-use borrow.Author.Rules.{rules}
 use Rattle.relation.proofs.set_row.Goals.{After-row_words-w}
 use Rattle.relation.proofs.set_row.Goals as goal
 

@@ -1,12 +1,12 @@
 -- `relation::set_rows` meets its contract: from one member to the next. Assumes nothing.
 use mathlib.Core.Path.{◌≡◌, sym, ap, ◌∙◌}
-use mathlib.Core.Bool.{Bool, true, false, cond}
-use Prim.Native.Nat.{ℕ, ◌<◌, ◌-◌}
+use mathlib.Core.Bool.{Bool, false, cond}
+use Prim.Native.Nat.{ℕ, ◌<◌}
 use native.Mathlib.Omega.{arith}
 use lib.ListN.{length}
 use Rattle.lts.specs.System.{Set, Rel}
 use Rattle.rows.specs.Rows.{in_row}
-use Rattle.relation.specs.Matrix.{relation_of, matrix_of, rows_of}
+use Rattle.relation.specs.Matrix.{relation_of}
 use Rattle.relation.proofs.Matrices.{length-matrix_of, matrix-relation, formed-of}
 use Rattle.relation.proofs.Rows.{row-set, rows_next, rows-first, rows_end}
 use borrow.Author.Rules.{rules}

@@ -1,14 +1,8 @@
-use mathlib.Core.Path.{◌≡◌, sym, ap, ◌∙◌}
-use mathlib.Core.Bool.{Bool, true, false, cond}
-use Prim.Native.Nat.{ℕ, ◌<◌, ◌-◌}
-use native.Mathlib.Omega.{arith}
-use lib.ListN.{length}
-use Rattle.lts.specs.System.{Set, Rel}
+use mathlib.Core.Path.{◌≡◌}
+use mathlib.Core.Bool.{true, cond}
+use Prim.Native.Nat.{◌<◌, ◌-◌}
 use Rattle.rows.specs.Rows.{in_row}
 use Rattle.relation.specs.Matrix.{relation_of, matrix_of, rows_of}
-use Rattle.relation.proofs.Matrices.{length-matrix_of, matrix-relation, formed-of}
-use Rattle.relation.proofs.Rows.{row-set, rows_next, rows-first, rows_end}
-use borrow.Author.Rules.{rules}
 use Rattle.relation.proofs.set_rows.Given as goal
 
 abbrev pub invariant-loop-p : goal.invariant-loop-p

@@ -1,14 +1,7 @@
 -- `relation::transitive_above` meets its contract: a state that leaves `left` passes. Assumes nothing.
-use mathlib.Core.Path.{◌≡◌, refl, sym, ◌∙◌}
-use mathlib.Core.Bool.{true}
-use Prim.Native.Nat.{◌*◌, ◌≤◌, ◌<◌, ◌-◌}
+use mathlib.Core.Path.{refl, sym, ◌∙◌}
 use native.Mathlib.Omega.{arith}
-use lib.ListN.{length}
-use borrow.Author.Tests.{not-true, not-false}
-use Rattle.rows.specs.Rows.{in_row}
-use Rattle.relation.specs.Matrix.{relation_of}
 use Rattle.relation.specs.Check.{transitive_at}
-use Rattle.relation.specs.Tested.{Left}
 use Rattle.lts.proofs.Below.{all-not, clash}
 use Rattle.relation.proofs.Rows.{row_words_lem}
 use Rattle.relation.proofs.Transitivity.{left-next, left_less}

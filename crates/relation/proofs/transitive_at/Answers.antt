@@ -1,9 +1,7 @@
 -- `relation::transitive_at` meets its contract: what is left after the states above is tested last. Assumes nothing.
 use mathlib.Core.Path.{sym}
-use borrow.Author.Tests.{not-true, not-false}
 use Rattle.relation.specs.Matrix.{relation_of}
 use Rattle.relation.proofs.Transitivity.{left-whole}
-use borrow.Author.Rules.{rules}
 use Rattle.relation.proofs.transitive_at.Goals as goal
 
 pub transitive_above-requires : goal.transitive_above-requires

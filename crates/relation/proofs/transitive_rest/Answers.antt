@@ -1,16 +1,10 @@
 -- `relation::transitive_rest` meets its contract: a state that is not left passes. Assumes nothing.
-use mathlib.Core.Path.{◌≡◌, sym, ◌∙◌}
-use mathlib.Core.Bool.{true}
-use Prim.Native.Nat.{ℕ, ◌*◌, ◌≤◌, ◌<◌, ◌-◌}
+use mathlib.Core.Path.{sym, ◌∙◌}
 use native.Mathlib.Omega.{arith}
 use borrow.Author.Count.{below_none, below_more}
-use borrow.Author.Tests.{not-true, not-false}
-use Rattle.rows.specs.Rows.{in_row}
-use Rattle.relation.specs.Matrix.{relation_of}
-use Rattle.relation.specs.Check.{transitive_pair, transitive_at}
+use Rattle.relation.specs.Check.{transitive_at}
 use Rattle.lts.proofs.Below.{all_yes, all-not}
 use Rattle.relation.proofs.Transitivity.{left-skip, left-next}
-use borrow.Author.Rules.{rules}
 use Rattle.relation.proofs.transitive_rest.Goals as goal
 
 pub loop-q-init : goal.loop-q-init

@@ -1,15 +1,9 @@
-use mathlib.Core.Path.{◌≡◌, sym, ◌∙◌}
+use mathlib.Core.Path.{◌≡◌}
 use mathlib.Core.Bool.{true}
 use Prim.Native.Nat.{ℕ, ◌*◌, ◌≤◌, ◌<◌, ◌-◌}
-use native.Mathlib.Omega.{arith}
-use borrow.Author.Count.{below_none, below_more}
-use borrow.Author.Tests.{not-true, not-false}
 use Rattle.rows.specs.Rows.{in_row}
 use Rattle.relation.specs.Matrix.{relation_of}
-use Rattle.relation.specs.Check.{transitive_pair, transitive_at}
-use Rattle.lts.proofs.Below.{all_yes, all-not}
-use Rattle.relation.proofs.Transitivity.{left-skip, left-next}
-use borrow.Author.Rules.{rules}
+use Rattle.relation.specs.Check.{transitive_pair}
 use Rattle.relation.proofs.transitive_rest.Given as goal
 
 abbrev pub invariant-loop-q : goal.invariant-loop-q

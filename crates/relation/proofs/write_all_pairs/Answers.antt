@@ -1,13 +1,12 @@
 -- `relation::write_all_pairs` meets its contract: row by row, each lent from its first word on. Assumes nothing.
-use mathlib.Core.Path.{◌≡◌, ap, ◌∙◌}
+use mathlib.Core.Path.{ap, ◌∙◌}
 use mathlib.Core.Bool.{true}
 use mathlib.Core.List.{List, ◌++◌}
 use Prim.Native.Nat.{ℕ, ◌≤◌, ◌+◌, ◌*◌, ◌-◌}
 use native.Mathlib.Omega.{arith}
 use lib.ListN.{length, take, drop, length-drop}
 use borrow.Rule.Slice.PartMut.{same_len_mid}
-use Rattle.rows.specs.Rows.{row_words}
-use Rattle.relation.proofs.Matrices.{rows_to, row_fits, rows_none, rows_more, rows-done}
+use Rattle.relation.proofs.Matrices.{row_fits, rows_none, rows_more, rows-done}
 use Rattle.relation.proofs.Rows.{all_row}
 use Rattle.rows.proofs.Rows.{tail-part}
 use borrow.Author.Rules.{rules}

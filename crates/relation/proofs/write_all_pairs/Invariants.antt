@@ -1,15 +1,10 @@
-use mathlib.Core.Path.{◌≡◌, ap, ◌∙◌}
+use mathlib.Core.Path.{◌≡◌}
 use mathlib.Core.Bool.{true}
-use mathlib.Core.List.{List, ◌++◌}
-use Prim.Native.Nat.{ℕ, ◌≤◌, ◌+◌, ◌*◌, ◌-◌}
-use native.Mathlib.Omega.{arith}
-use lib.ListN.{length, take, drop, length-drop}
-use borrow.Rule.Slice.PartMut.{same_len_mid}
+use mathlib.Core.List.{◌++◌}
+use Prim.Native.Nat.{◌≤◌, ◌*◌, ◌-◌}
+use lib.ListN.{length, drop}
 use Rattle.rows.specs.Rows.{row_words}
-use Rattle.relation.proofs.Matrices.{rows_to, row_fits, rows_none, rows_more, rows-done}
-use Rattle.relation.proofs.Rows.{all_row}
-use Rattle.rows.proofs.Rows.{tail-part}
-use borrow.Author.Rules.{rules}
+use Rattle.relation.proofs.Matrices.{rows_to}
 use Rattle.relation.proofs.write_all_pairs.Given as goal
 
 abbrev pub invariant-loop-p : goal.invariant-loop-p

@@ -3,7 +3,6 @@ use mathlib.Core.Path.{◌∙◌}
 use Rattle.rows.specs.Rows.{in_row}
 use Rattle.relation.proofs.Matrices.{formed-of}
 use Rattle.relation.proofs.Rows.{members-implied}
-use borrow.Author.Rules.{rules}
 use Rattle.relation.proofs.write_termination.Goals as goal
 
 pub set_rows-requires : goal.set_rows-requires

@@ -1,6 +1,6 @@
 -- `sets::any` meets its contract. Assumes nothing.
 use mir.Syntax.{w64}
-use borrow.Author.Rules.{rules, elem_Fits}
+use borrow.Author.Rules.{elem_Fits}
 use Rattle.sets.proofs.Lists.{any-joined}
 use Rattle.sets.proofs.any.Goals as goal
 

@@ -1,5 +1,4 @@
 -- `sets::at` meets its contract. Assumes nothing.
-use borrow.Author.Rules.{rules}
 use Rattle.sets.proofs.Lists.{at-four}
 use Rattle.sets.proofs.at.Goals as goal
 

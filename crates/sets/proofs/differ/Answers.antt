@@ -1,7 +1,7 @@
 -- `sets::differ` meets its contract. Assumes nothing.
 use mir.Syntax.{w64}
 use mathlib.Core.Path.{◌∙◌}
-use borrow.Author.Rules.{rules, elem_Fits}
+use borrow.Author.Rules.{elem_Fits}
 use Rattle.lts.proofs.Below.{any-cong}
 use Rattle.rows.proofs.Rows.{xor-bitwise}
 use Rattle.sets.proofs.Lists.{set-in, zip-four}

@@ -1,12 +1,8 @@
 -- `sets::from_matrix` meets its contract. Assumes nothing.
-use mathlib.Core.Path.{◌≡◌, sym, ◌∙◌}
-use Prim.Native.Nat.{◌-◌, ◌≤◌}
+use mathlib.Core.Path.{sym, ◌∙◌}
 use native.Mathlib.Omega.{arith}
-use Rattle.rows.specs.Rows.{states_below}
-use Rattle.relation.specs.Matrix.{relation_of}
-use Rattle.sets.specs.Sets.{sets_of}
 use Rattle.sets.proofs.Lists.{sets-long}
-use Rattle.sets.proofs.Matrices.{first_rows, rows_none, rows-put, rows_whole}
+use Rattle.sets.proofs.Matrices.{rows_none, rows-put, rows_whole}
 use borrow.Author.Rules.{rules}
 use Rattle.sets.proofs.from_matrix.Goals as goal
 

@@ -1,12 +1,9 @@
-use mathlib.Core.Path.{◌≡◌, sym, ◌∙◌}
+use mathlib.Core.Path.{◌≡◌}
 use Prim.Native.Nat.{◌-◌, ◌≤◌}
-use native.Mathlib.Omega.{arith}
 use Rattle.rows.specs.Rows.{states_below}
 use Rattle.relation.specs.Matrix.{relation_of}
 use Rattle.sets.specs.Sets.{sets_of}
-use Rattle.sets.proofs.Lists.{sets-long}
-use Rattle.sets.proofs.Matrices.{first_rows, rows_none, rows-put, rows_whole}
-use borrow.Author.Rules.{rules}
+use Rattle.sets.proofs.Matrices.{first_rows}
 use Rattle.sets.proofs.from_matrix.Given as goal
 
 abbrev pub invariant-loop-p : goal.invariant-loop-p

@@ -1,16 +1,8 @@
-use mathlib.Core.Path.{◌≡◌, sym, ap, ◌∙◌}
-use mathlib.Core.Bool.{true}
-use mathlib.Core.List.{List}
-use Prim.Native.Nat.{ℕ, ◌+◌, ◌-◌, ◌*◌, ◌^◌, ◌<◌, ◌≤◌}
-use native.Mathlib.Omega.{arith}
-use lib.Count.{ones, ones-le}
-use lib.ListN.{length, get_or}
+use mathlib.Core.Path.{◌≡◌}
+use Prim.Native.Nat.{◌+◌, ◌-◌, ◌*◌, ◌≤◌}
+use lib.ListN.{length}
 use Rattle.lts.specs.Bounded.{passing}
-use Rattle.rows.specs.Rows.{bit, in_row}
-use Rattle.lts.proofs.Lists.{passing-none, passing-same, passing-add, passing-place, length-passing}
-use Rattle.rows.proofs.Counts.{ones-count}
-use Rattle.rows.proofs.Rows.{in_row-at}
-use borrow.Author.Rules.{rules}
+use Rattle.rows.specs.Rows.{in_row}
 use Rattle.sets.proofs.member_at.Given as goal
 
 abbrev pub invariant-loop-c : goal.invariant-loop-c

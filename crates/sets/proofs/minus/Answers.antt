@@ -1,5 +1,5 @@
 -- `sets::minus` meets its contract. Assumes nothing.
-use borrow.Author.Rules.{rules, elem_Fits}
+use borrow.Author.Rules.{elem_Fits}
 use mir.Syntax.{w64}
 use Rattle.rows.proofs.Rows.{minus-bitwise}
 use Rattle.sets.proofs.Lists.{zip-four}

@@ -2,7 +2,7 @@
 use mathlib.Core.Path.{◌≡◌, ap, ◌∙◌}
 use mathlib.Core.Bool.{true}
 use mathlib.Core.List.{[], ◌∷◌}
-use Prim.Native.Nat.{ℕ, ◌+◌, ◌-◌, ◌^◌, ◌<◌, ◌≤◌}
+use Prim.Native.Nat.{ℕ, ◌+◌, ◌-◌, ◌^◌, ◌<◌}
 use native.Mathlib.Omega.{arith}
 use mir.Syntax.{w64}
 use mir.Val.{Fits}
@@ -14,7 +14,7 @@ use Rattle.rows.specs.Rows.{bit, Next}
 use Rattle.lts.proofs.Count.{passing-shorter}
 use Rattle.lts.proofs.Lists.{passing-none, passing-more}
 use Rattle.rows.proofs.Rows.{next_place}
-use Rattle.sets.proofs.Walks.{Rest, Stepped, rest-begin, rest-next, rest_end}
+use Rattle.sets.proofs.Walks.{Stepped, rest-begin, rest-next, rest_end}
 use borrow.Author.Rules.{rules}
 use Rattle.sets.proofs.one_at.Goals.{In-loop-i}
 use Rattle.sets.proofs.one_at.Invariants.{Dropped}

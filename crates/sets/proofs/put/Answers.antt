@@ -6,7 +6,7 @@ use lib.Dec.{eqb}
 use mir.Syntax.{w64}
 use native.Mathlib.Omega.{arith}
 use lib.ListN.{length, get_or, set, length-set}
-use borrow.Author.Rules.{rules, elem_Fits}
+use borrow.Author.Rules.{elem_Fits}
 use Rattle.rows.specs.Rows.{in_row, row_of}
 use Rattle.sets.proofs.Lists.{put_four}
 use Rattle.sets.proofs.put.Goals as goal

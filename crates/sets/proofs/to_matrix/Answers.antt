@@ -1,11 +1,11 @@
 -- `sets::to_matrix` meets its contract. Assumes nothing.
-use mathlib.Core.Path.{◌≡◌, sym, ap, ◌∙◌}
-use Prim.Native.Nat.{◌-◌, ◌≤◌, ◌<◌}
+use mathlib.Core.Path.{sym, ap, ◌∙◌}
+use Prim.Native.Nat.{◌<◌}
 use Rattle.lts.proofs.Below.{length-list_below}
 use Rattle.rows.specs.Rows.{in_row, word_at}
 use native.Mathlib.Omega.{arith}
 use lib.ListN.{length}
-use Rattle.relation.specs.Matrix.{relation_of, matrix_of, rows_of}
+use Rattle.relation.specs.Matrix.{relation_of}
 use Rattle.relation.proofs.Matrices.{length-matrix_of, matrix-relation, formed-of}
 use Rattle.relation.proofs.Rows.{row-set, rows_end}
 use Rattle.sets.specs.Sets.{set_at}
