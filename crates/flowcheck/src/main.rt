@@ -1,4 +1,6 @@
 // The program flowcheck (document 01, "Flows on each side"): reads one sheet from standard input, and prints its text.
+#![tactic(auto)]
+
 ghost use Rattle.std.specs.Prelude.{◌≡◌};
 ghost use Rattle.listing.specs.Text.{flow_text};
 
