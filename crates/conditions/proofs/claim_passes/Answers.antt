@@ -1,19 +1,11 @@
 -- `conditions::claim_passes` meets its contract: row by row. Assumes nothing.
-use Prim.Native.Nat.{ℕ, ◌≤◌, ◌<◌, ◌-◌}
-use mathlib.Core.Path.{◌≡◌, sym, ◌∙◌}
-use mathlib.Core.Bool.{Bool, true}
-use mathlib.Core.List.{List}
+use mathlib.Core.Path.{sym, ◌∙◌}
 use native.Mathlib.Omega.{arith}
 use borrow.Author.Count.{below_none, below_more}
-use borrow.Author.Tests.{not-true, not-false}
-use Rattle.lts.specs.Bounded.{◌⇒◌, all_below}
 use Rattle.lts.specs.System.{all_states, within}
 use Rattle.lts.proofs.Below.{all_yes, all-not}
-use Rattle.transitions.specs.Table.{states_of, table_lts}
-use Rattle.relation.specs.Matrix.{relation_of}
-use Rattle.conditions.specs.Conditions.{both_conditions}
+use Rattle.transitions.specs.Table.{table_lts}
 use borrow.Author.Rules.{rules}
-use Rattle.conditions.proofs.claim_passes.Invariants.{row}
 use Rattle.conditions.proofs.claim_passes.Goals as goal
 
 pub loop-p-init : goal.loop-p-init

@@ -1,17 +1,11 @@
 use Prim.Native.Nat.{ℕ, ◌≤◌, ◌<◌, ◌-◌}
-use mathlib.Core.Path.{◌≡◌, sym, ◌∙◌}
+use mathlib.Core.Path.{◌≡◌}
 use mathlib.Core.Bool.{Bool, true}
 use mathlib.Core.List.{List}
-use native.Mathlib.Omega.{arith}
-use borrow.Author.Count.{below_none, below_more}
-use borrow.Author.Tests.{not-true, not-false}
 use Rattle.lts.specs.Bounded.{◌⇒◌, all_below}
-use Rattle.lts.specs.System.{all_states, within}
-use Rattle.lts.proofs.Below.{all_yes, all-not}
 use Rattle.transitions.specs.Table.{states_of, table_lts}
 use Rattle.relation.specs.Matrix.{relation_of}
 use Rattle.conditions.specs.Conditions.{both_conditions}
-use borrow.Author.Rules.{rules}
 use Rattle.conditions.proofs.claim_passes.Given as goal
 
 -- whether each pair of row p meets the conditions

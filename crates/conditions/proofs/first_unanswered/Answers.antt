@@ -1,14 +1,8 @@
 -- `conditions::first_unanswered` meets its contract: number by number of p's row. Assumes nothing.
-use Prim.Native.Nat.{◌+◌, ◌-◌, ◌≤◌}
-use mathlib.Core.Path.{◌≡◌, sym, ◌∙◌}
-use mathlib.Core.Bool.{true}
+use Prim.Native.Nat.{◌+◌}
+use mathlib.Core.Path.{sym, ◌∙◌}
 use native.Mathlib.Omega.{arith}
-use borrow.Author.Tests.{not-false}
-use Rattle.transitions.specs.Table.{states_of, count_of, offset_at}
-use Rattle.transitions.proofs.Entries.{Between, between_none, between_more, offset-most}
-use Rattle.relation.specs.Matrix.{relation_of}
-use Rattle.conditions.specs.Conditions.{answered_by}
-use borrow.Author.Rules.{rules}
+use Rattle.transitions.proofs.Entries.{between_none, between_more, offset-most}
 use mathlib.Core.Path.{ap}
 use mathlib.Core.Bool.{not}
 use Rattle.conditions.proofs.first_unanswered.Goals as goal

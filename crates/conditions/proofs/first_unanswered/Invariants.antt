@@ -1,15 +1,10 @@
 use Prim.Native.Nat.{◌+◌, ◌-◌, ◌≤◌}
-use mathlib.Core.Path.{◌≡◌, sym, ◌∙◌}
+use mathlib.Core.Path.{◌≡◌}
 use mathlib.Core.Bool.{true}
-use native.Mathlib.Omega.{arith}
-use borrow.Author.Tests.{not-false}
 use Rattle.transitions.specs.Table.{states_of, count_of, offset_at}
-use Rattle.transitions.proofs.Entries.{Between, between_none, between_more, offset-most}
+use Rattle.transitions.proofs.Entries.{Between}
 use Rattle.relation.specs.Matrix.{relation_of}
 use Rattle.conditions.specs.Conditions.{answered_by}
-use borrow.Author.Rules.{rules}
-use mathlib.Core.Path.{ap}
-use mathlib.Core.Bool.{not}
 use Rattle.conditions.proofs.first_unanswered.Given as goal
 
 abbrev pub invariant-loop-i : goal.invariant-loop-i

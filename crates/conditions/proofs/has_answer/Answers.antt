@@ -7,7 +7,6 @@ use lib.ListN.{length}
 use Rattle.rows.specs.Rows.{row_words}
 use Rattle.relation.proofs.Matrices.{row-long}
 use Rattle.conditions.proofs.Answers.{answer-row}
-use borrow.Author.Rules.{rules}
 use Rattle.conditions.proofs.has_answer.Goals.{After-target}
 use Rattle.conditions.proofs.has_answer.Goals as goal
 

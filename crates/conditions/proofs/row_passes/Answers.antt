@@ -1,24 +1,17 @@
 -- `conditions::row_passes` meets its contract: the members of row p are walked through, and each meets the conditions. Assumes nothing.
-use Prim.Native.Nat.{ℕ, ◌-◌, ◌*◌, ◌≤◌, ◌<◌}
+use Prim.Native.Nat.{ℕ, ◌*◌, ◌≤◌, ◌<◌}
 use mathlib.Core.Path.{◌≡◌, sym, ap₂, ◌∙◌, subst⁻¹}
-use mathlib.Core.Bool.{true}
 use mathlib.Core.List.{List}
 use native.Mathlib.Omega.{arith}
 use borrow.Author.Count.{below_none, below_more}
-use borrow.Author.Tests.{not-true, not-false}
 use lib.ListN.{length}
 use Rattle.lts.specs.Bounded.{◌⇒◌}
-use Rattle.lts.specs.System.{Rel}
 use Rattle.lts.proofs.Below.{all_yes, all-not}
-use Rattle.rows.specs.Rows.{in_row, row_words}
-use Rattle.transitions.specs.Table.{states_of, table_lts}
-use Rattle.relation.specs.Matrix.{relation_of}
+use Rattle.rows.specs.Rows.{row_words}
+use Rattle.transitions.specs.Table.{states_of}
 use Rattle.relation.proofs.Matrices.{row-long}
-use Rattle.conditions.specs.Conditions.{both_conditions}
 use Rattle.conditions.proofs.Pairs.{walked_skip, walked_row}
-use borrow.Author.Rules.{rules}
 use Rattle.conditions.proofs.row_passes.Goals.{After-row_at-row, After-row_words-w}
-use Rattle.conditions.proofs.row_passes.Invariants.{test}
 use Rattle.conditions.proofs.row_passes.Goals as goal
 
 -- what row p asks: the claim's length, at most 256 states, and p

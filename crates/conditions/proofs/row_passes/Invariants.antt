@@ -1,21 +1,13 @@
 use Prim.Native.Nat.{ℕ, ◌-◌, ◌*◌, ◌≤◌, ◌<◌}
-use mathlib.Core.Path.{◌≡◌, sym, ap₂, ◌∙◌, subst⁻¹}
+use mathlib.Core.Path.{◌≡◌}
 use mathlib.Core.Bool.{true}
 use mathlib.Core.List.{List}
-use native.Mathlib.Omega.{arith}
-use borrow.Author.Count.{below_none, below_more}
-use borrow.Author.Tests.{not-true, not-false}
-use lib.ListN.{length}
 use Rattle.lts.specs.Bounded.{◌⇒◌}
 use Rattle.lts.specs.System.{Rel}
-use Rattle.lts.proofs.Below.{all_yes, all-not}
-use Rattle.rows.specs.Rows.{in_row, row_words}
+use Rattle.rows.specs.Rows.{in_row}
 use Rattle.transitions.specs.Table.{states_of, table_lts}
 use Rattle.relation.specs.Matrix.{relation_of}
-use Rattle.relation.proofs.Matrices.{row-long}
 use Rattle.conditions.specs.Conditions.{both_conditions}
-use Rattle.conditions.proofs.Pairs.{walked_skip, walked_row}
-use borrow.Author.Rules.{rules}
 use Rattle.conditions.proofs.row_passes.Given as goal
 
 -- whether a pair meets the conditions

@@ -1,6 +1,5 @@
 -- `conditions::transfer_condition` meets its contract: no transition is the first that is not answered. Assumes nothing.
 use Rattle.conditions.proofs.Answers.{transfer-iff}
-use borrow.Author.Rules.{rules}
 use Rattle.conditions.proofs.transfer_condition.Goals as goal
 
 pub returns : goal.returns

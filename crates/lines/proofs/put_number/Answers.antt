@@ -1,7 +1,6 @@
 -- `put_number`: text, and the digits after it.
 use native.Mathlib.Omega.{arith}
 use Rattle.lines.proofs.Laws.{Put, put-more, five-digits}
-use borrow.Author.Rules.{rules}
 use Rattle.lines.proofs.put_number.Goals as goal
 
 pub returns : goal.returns

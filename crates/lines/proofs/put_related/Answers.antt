@@ -1,10 +1,8 @@
 -- `put_related`: by whether p is related to q.
 use mathlib.Core.Path.{sym, ◌∙◌}
 use native.Mathlib.Omega.{arith}
-use borrow.Author.Tests.{not-true, not-false}
 use Rattle.relation.specs.Matrix.{relation_of}
 use Rattle.lines.proofs.Laws.{put-none, related-yes, related-no, three-digits}
-use borrow.Author.Rules.{rules}
 use Rattle.lines.proofs.put_related.Goals as goal
 
 pub relates-requires : goal.relates-requires

@@ -1,12 +1,9 @@
 -- `put_row`: the states below q are written.
 use mathlib.Core.Path.{◌≡◌}
 use native.Mathlib.Omega.{arith}
-use Prim.Native.Nat.{◌+◌, ◌*◌, ◌-◌, ◌≤◌}
-use lib.ListN.{length}
-use Rattle.lts.specs.Bounded.{concat_below}
 use Rattle.relation.specs.Matrix.{relation_of}
 use Rattle.lines.specs.Lines.{related_text}
-use Rattle.lines.proofs.Laws.{Put, put-none, put-more, concat-none, concat-more}
+use Rattle.lines.proofs.Laws.{put-none, put-more, concat-none, concat-more}
 use borrow.Author.Rules.{rules}
 use Rattle.lines.proofs.put_row.Goals as goal
 

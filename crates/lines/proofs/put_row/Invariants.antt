@@ -1,12 +1,10 @@
 use mathlib.Core.Path.{◌≡◌}
-use native.Mathlib.Omega.{arith}
 use Prim.Native.Nat.{◌+◌, ◌*◌, ◌-◌, ◌≤◌}
 use lib.ListN.{length}
 use Rattle.lts.specs.Bounded.{concat_below}
 use Rattle.relation.specs.Matrix.{relation_of}
 use Rattle.lines.specs.Lines.{related_text}
-use Rattle.lines.proofs.Laws.{Put, put-none, put-more, concat-none, concat-more}
-use borrow.Author.Rules.{rules}
+use Rattle.lines.proofs.Laws.{Put}
 use Rattle.lines.proofs.put_row.Given as goal
 
 abbrev pub invariant-loop-q : goal.invariant-loop-q

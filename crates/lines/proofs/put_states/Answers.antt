@@ -1,10 +1,8 @@
 -- `put_states`: the lines of the states below p are written.
 use mathlib.Core.Path.{◌≡◌}
 use native.Mathlib.Omega.{arith}
-use Prim.Native.Nat.{◌+◌, ◌*◌, ◌-◌, ◌≤◌}
-use lib.ListN.{length}
 use Rattle.relation.specs.Matrix.{relation_of}
-use Rattle.lines.proofs.Laws.{Put, put-none, put-more, lines_to, lines_none, lines_more, lines-all}
+use Rattle.lines.proofs.Laws.{put-none, put-more, lines_none, lines_more, lines-all}
 use borrow.Author.Rules.{rules}
 use Rattle.lines.proofs.put_states.Goals as goal
 

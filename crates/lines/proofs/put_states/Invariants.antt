@@ -1,10 +1,8 @@
 use mathlib.Core.Path.{◌≡◌}
-use native.Mathlib.Omega.{arith}
 use Prim.Native.Nat.{◌+◌, ◌*◌, ◌-◌, ◌≤◌}
 use lib.ListN.{length}
 use Rattle.relation.specs.Matrix.{relation_of}
-use Rattle.lines.proofs.Laws.{Put, put-none, put-more, lines_to, lines_none, lines_more, lines-all}
-use borrow.Author.Rules.{rules}
+use Rattle.lines.proofs.Laws.{Put, lines_to}
 use Rattle.lines.proofs.put_states.Given as goal
 
 abbrev pub invariant-loop-p : goal.invariant-loop-p

@@ -1,11 +1,8 @@
 -- `splitting::joined` meets its contract: the blocks of the members in the first words are there. Assumes nothing.
 use mathlib.Core.Path.{refl, sym}
-use Prim.Native.Nat.{◌-◌, ◌≤◌}
 use borrow.Author.Rules.{rules}
-use Rattle.rows.specs.Rows.{in_row}
 use Rattle.rows.proofs.Rows.{in_row-zeros}
 use Rattle.sets.specs.Sets.{set_at}
-use Rattle.splitting.specs.Split.{Meets}
 use Rattle.splitting.proofs.Joining.{meets-cong, meets-none}
 use Rattle.sets.proofs.Rewritten.{upto, upto-none, upto_all, upto-more}
 use Rattle.splitting.proofs.joined.Goals as goal

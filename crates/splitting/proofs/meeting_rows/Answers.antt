@@ -1,5 +1,4 @@
 -- `splitting::meeting_rows` meets its contract: a member that is not shared is alone in its block. Assumes nothing.
-use borrow.Author.Rules.{rules}
 use Rattle.rows.specs.Rows.{in_row}
 use Rattle.sets.specs.Sets.{set_at}
 use Rattle.sets.proofs.Lists.{set-in}

@@ -3,11 +3,11 @@ use mathlib.Core.Path.{◌≡◌, refl, sym, ap, ◌∙◌}
 use mathlib.Core.Bool.{Bool, true, false, not, ◌&&◌, and-true}
 use mathlib.Core.List.{List, ◌++◌}
 use mathlib.Core.Logic.{⊎_elim}
-use Prim.Native.Nat.{ℕ, ◌+◌, ◌-◌, ◌*◌, ◌≤◌}
+use Prim.Native.Nat.{ℕ, ◌+◌, ◌*◌}
 use native.Mathlib.Omega.{arith}
 use lib.ListN.{drop, replicate}
 use borrow.Author.Rules.{rules}
-use Rattle.lts.specs.Bounded.{any_below, list_below}
+use Rattle.lts.specs.Bounded.{list_below}
 use Rattle.lts.specs.System.{Set, Rel}
 use Rattle.lts.proofs.Below.{either, any-cong}
 use Rattle.rows.specs.Rows.{in_row, row_of}
@@ -16,7 +16,7 @@ use Rattle.sets.specs.Sets.{set_at, sets_of}
 use Rattle.sets.proofs.Lists.{sets-cong}
 use Rattle.sets.proofs.Keeping.{kept_word}
 use Rattle.splitting.specs.Split.{without}
-use Rattle.sets.proofs.Rewritten.{Rewritten, mixed, mixed-in, mixed-out, rewritten-long, rewritten-more, rewritten-old}
+use Rattle.sets.proofs.Rewritten.{mixed, mixed-in, mixed-out, rewritten-long, rewritten-more, rewritten-old}
 use Rattle.sets.proofs.Rewritten.{rewritten-none, rewritten-done, upto, upto-none, upto-out, upto_all, upto-more}
 use Rattle.splitting.proofs.prune.Invariants.{Changed, meets}
 use Rattle.splitting.proofs.prune.Goals as goal

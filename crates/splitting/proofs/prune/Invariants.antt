@@ -1,22 +1,14 @@
-use mathlib.Core.Path.{◌≡◌, refl, sym, ap, ◌∙◌}
-use mathlib.Core.Bool.{Bool, true, false, not, ◌&&◌, and-true}
-use mathlib.Core.List.{List, ◌++◌}
-use mathlib.Core.Logic.{⊎_elim}
-use Prim.Native.Nat.{ℕ, ◌+◌, ◌-◌, ◌*◌, ◌≤◌}
-use native.Mathlib.Omega.{arith}
-use lib.ListN.{drop, replicate}
-use borrow.Author.Rules.{rules}
-use Rattle.lts.specs.Bounded.{any_below, list_below}
+use mathlib.Core.Path.{◌≡◌}
+use mathlib.Core.Bool.{not, ◌&&◌}
+use mathlib.Core.List.{◌++◌}
+use Prim.Native.Nat.{◌-◌, ◌≤◌}
+use lib.ListN.{drop}
+use Rattle.lts.specs.Bounded.{any_below}
 use Rattle.lts.specs.System.{Set, Rel}
-use Rattle.lts.proofs.Below.{either, any-cong}
 use Rattle.rows.specs.Rows.{in_row, row_of}
-use Rattle.rows.proofs.Rows.{row-store, row_done, row-whole}
-use Rattle.sets.specs.Sets.{set_at, sets_of}
-use Rattle.sets.proofs.Lists.{sets-cong}
-use Rattle.sets.proofs.Keeping.{kept_word}
-use Rattle.splitting.specs.Split.{without}
-use Rattle.sets.proofs.Rewritten.{Rewritten, mixed, mixed-in, mixed-out, rewritten-long, rewritten-more, rewritten-old}
-use Rattle.sets.proofs.Rewritten.{rewritten-none, rewritten-done, upto, upto-none, upto-out, upto_all, upto-more}
+use Rattle.sets.specs.Sets.{set_at}
+use Rattle.sets.proofs.Rewritten.{Rewritten}
+use Rattle.sets.proofs.Rewritten.{upto}
 use Rattle.splitting.proofs.prune.Given as goal
 
 -- the rows that have a state of Rem, and those of `rows` that have one

@@ -4,8 +4,6 @@ use mathlib.Core.Bool.{false, and-true}
 use Prim.Native.Nat.{ℕ, ◌<◌, ◌^◌}
 use lib.ListN.{replicate}
 use lib.Pow.{pow_pos}
-use borrow.Author.Rules.{rules}
-use borrow.Author.Tests.{not-true}
 use Rattle.rows.specs.Rows.{in_row}
 use Rattle.rows.proofs.Rows.{get_or-zeros, in_row-zeros, row-ext}
 use Rattle.sets.specs.Sets.{set_at}

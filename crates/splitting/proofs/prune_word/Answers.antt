@@ -1,21 +1,18 @@
 -- `splitting::prune_word` meets its contract: what the word had and is not left is pruned. Assumes nothing.
 use mathlib.Core.Path.{refl, sym, ap, ◌∙◌}
 use mathlib.Core.Bool.{cond, Bool, not, ◌&&◌}
-use mathlib.Core.List.{List}
-use Prim.Native.Nat.{ℕ, ◌+◌, ◌*◌, ◌<◌}
+use Prim.Native.Nat.{◌+◌, ◌*◌, ◌<◌}
 use native.Mathlib.Omega.{arith}
 use lib.Count.{count_trailing_zeros}
 use borrow.Author.Tests.{eq-eqb}
 use borrow.Author.Rules.{rules}
-use Rattle.lts.specs.Bounded.{any_below}
-use Rattle.lts.specs.System.{Set}
 use Rattle.lts.proofs.Below.{any-cong}
 use Rattle.rows.specs.Rows.{in_row}
 use Rattle.sets.specs.Sets.{set_at, window}
-use Rattle.sets.proofs.Rewritten.{Rewritten, rewritten-long, rewritten-more, rewritten-old, rewritten-none, rewritten-done}
+use Rattle.sets.proofs.Rewritten.{rewritten-long, rewritten-more, rewritten-old, rewritten-none, rewritten-done}
 use Rattle.sets.proofs.Rewritten.{passed, passed_none, passed-all, passed-more}
 use Rattle.sets.proofs.Walks.{part-less, low-lt}
-use Rattle.sets.proofs.Keeping.{Keeping, keep-begin, keep-more, keep-end}
+use Rattle.sets.proofs.Keeping.{keep-begin, keep-more, keep-end}
 use Rattle.splitting.proofs.prune_word.Goals.{In-loop-left}
 use Rattle.splitting.proofs.prune_word.Invariants.{hit}
 use Rattle.splitting.proofs.prune_word.Goals as goal

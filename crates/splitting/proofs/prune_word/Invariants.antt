@@ -1,20 +1,13 @@
-use mathlib.Core.Path.{refl, sym, ap, ◌∙◌}
-use mathlib.Core.Bool.{cond, Bool, not, ◌&&◌}
+use mathlib.Core.Bool.{not, ◌&&◌}
 use mathlib.Core.List.{List}
-use Prim.Native.Nat.{ℕ, ◌+◌, ◌*◌, ◌<◌}
-use native.Mathlib.Omega.{arith}
-use lib.Count.{count_trailing_zeros}
-use borrow.Author.Tests.{eq-eqb}
-use borrow.Author.Rules.{rules}
+use Prim.Native.Nat.{ℕ, ◌+◌, ◌*◌}
 use Rattle.lts.specs.Bounded.{any_below}
 use Rattle.lts.specs.System.{Set}
-use Rattle.lts.proofs.Below.{any-cong}
 use Rattle.rows.specs.Rows.{in_row}
-use Rattle.sets.specs.Sets.{set_at, window}
-use Rattle.sets.proofs.Rewritten.{Rewritten, rewritten-long, rewritten-more, rewritten-old, rewritten-none, rewritten-done}
-use Rattle.sets.proofs.Rewritten.{passed, passed_none, passed-all, passed-more}
-use Rattle.sets.proofs.Walks.{part-less, low-lt}
-use Rattle.sets.proofs.Keeping.{Keeping, keep-begin, keep-more, keep-end}
+use Rattle.sets.specs.Sets.{set_at}
+use Rattle.sets.proofs.Rewritten.{Rewritten}
+use Rattle.sets.proofs.Rewritten.{passed}
+use Rattle.sets.proofs.Keeping.{Keeping}
 use Rattle.splitting.proofs.prune_word.Given as goal
 
 -- the row of state i of word c has a state of Rem

@@ -1,17 +1,9 @@
-use mathlib.Core.Path.{◌≡◌, refl, sym, ◌∙◌}
-use mathlib.Core.Bool.{true, false}
-use mathlib.Core.Logic.{⊎_elim}
 use Prim.Native.Nat.{◌-◌, ◌≤◌}
-use borrow.Author.Rules.{rules}
-use Rattle.lts.specs.System.{Set, Rel}
-use Rattle.lts.proofs.Below.{either}
 use Rattle.rows.specs.Rows.{in_row}
-use Rattle.sets.specs.Sets.{set_at, sets_of}
-use Rattle.sets.proofs.Lists.{sets-cong}
-use Rattle.splitting.specs.Split.{split_related, split_blocks, Unsplit}
-use Rattle.sets.proofs.Rewritten.{Rewritten, mixed, mixed-in, mixed-out, rewritten-long, rewritten-more}
-use Rattle.sets.proofs.Rewritten.{rewritten-old, rewritten-none, rewritten-done, upto, upto-none, upto_all, upto-more}
-use Rattle.splitting.proofs.Touched.{related-row, blocks-row, related-unsplit, blocks-unsplit}
+use Rattle.sets.specs.Sets.{set_at}
+use Rattle.splitting.specs.Split.{split_related, split_blocks}
+use Rattle.sets.proofs.Rewritten.{Rewritten}
+use Rattle.sets.proofs.Rewritten.{upto}
 use Rattle.splitting.proofs.split.Given as goal
 
 abbrev pub invariant-loop-c : goal.invariant-loop-c

@@ -1,6 +1,5 @@
 -- `splitting::split_any` meets its contract: with no row, the split leaves all as it is. Assumes nothing.
 use mathlib.Core.Path.{sym, ◌∙◌}
-use borrow.Author.Rules.{rules}
 use Rattle.rows.specs.Rows.{in_row}
 use Rattle.sets.specs.Sets.{set_at}
 use Rattle.sets.proofs.Lists.{any-off, sets-cong, sets-ext}

@@ -1,7 +1,6 @@
 -- `splitting::split_at` meets its contract. Assumes nothing.
 use mathlib.Core.Path.{sym, ap, ap₂, ◌∙◌}
 use mathlib.Core.Bool.{Bool, not, ◌&&◌}
-use borrow.Author.Rules.{rules}
 use Rattle.rows.specs.Rows.{in_row}
 use Rattle.sets.specs.Sets.{set_at}
 use Rattle.sets.proofs.Lists.{set-in}

@@ -1,7 +1,5 @@
 -- `splitting::split_rows` meets its contract: where Rem's shared members are whole blocks, no block is split. Assumes nothing.
 use mathlib.Core.Path.{refl, sym, ◌∙◌}
-use borrow.Author.Rules.{rules}
-use borrow.Author.Tests.{not-true}
 use Rattle.rows.specs.Rows.{in_row}
 use Rattle.sets.specs.Sets.{set_at}
 use Rattle.sets.proofs.Lists.{set-in, any-off, same-sets}

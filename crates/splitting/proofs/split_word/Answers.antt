@@ -8,9 +8,9 @@ use Rattle.rows.specs.Rows.{in_row}
 use Rattle.sets.specs.Sets.{set_at, window}
 use Rattle.splitting.specs.Split.{split_related, split_blocks}
 use Rattle.splitting.proofs.Touched.{related-row, blocks-row}
-use Rattle.sets.proofs.Rewritten.{Rewritten, rewritten-long, rewritten-more, rewritten-old, rewritten-none, rewritten-done}
+use Rattle.sets.proofs.Rewritten.{rewritten-long, rewritten-more, rewritten-old, rewritten-none, rewritten-done}
 use Rattle.sets.proofs.Rewritten.{passed, passed_none, passed-all, passed-more}
-use Rattle.sets.proofs.Walks.{Part, part-all, part-next, part-less, low-lt}
+use Rattle.sets.proofs.Walks.{part-all, part-next, part-less, low-lt}
 use Rattle.splitting.proofs.split_word.Goals.{In-loop-left}
 use Rattle.splitting.proofs.split_word.Goals as goal
 

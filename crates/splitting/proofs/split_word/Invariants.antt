@@ -1,15 +1,9 @@
-use mathlib.Core.Path.{sym, ◌∙◌}
-use Prim.Native.Nat.{◌<◌}
-use native.Mathlib.Omega.{arith}
-use lib.Count.{count_trailing_zeros}
-use borrow.Author.Rules.{rules}
 use Rattle.rows.specs.Rows.{in_row}
-use Rattle.sets.specs.Sets.{set_at, window}
+use Rattle.sets.specs.Sets.{set_at}
 use Rattle.splitting.specs.Split.{split_related, split_blocks}
-use Rattle.splitting.proofs.Touched.{related-row, blocks-row}
-use Rattle.sets.proofs.Rewritten.{Rewritten, rewritten-long, rewritten-more, rewritten-old, rewritten-none, rewritten-done}
-use Rattle.sets.proofs.Rewritten.{passed, passed_none, passed-all, passed-more}
-use Rattle.sets.proofs.Walks.{Part, part-all, part-next, part-less, low-lt}
+use Rattle.sets.proofs.Rewritten.{Rewritten}
+use Rattle.sets.proofs.Rewritten.{passed}
+use Rattle.sets.proofs.Walks.{Part}
 use Rattle.splitting.proofs.split_word.Given as goal
 
 abbrev pub invariant-loop-left : goal.invariant-loop-left

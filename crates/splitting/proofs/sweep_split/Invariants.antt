@@ -1,18 +1,11 @@
-use mathlib.Core.Path.{◌≡◌, refl, sym, ap, ap₂, ◌∙◌}
-use mathlib.Core.Bool.{Bool, true, false, cond, not, ◌&&◌, ◌||◌, or-true}
+use mathlib.Core.Path.{◌≡◌}
+use mathlib.Core.Bool.{true, false}
 use mathlib.Core.List.{List}
-use mathlib.Core.Logic.{⊎_elim}
-use Prim.Native.Nat.{ℕ, ◌+◌, ◌≤◌, ◌<◌, ◌-◌}
-use borrow.Author.Rules.{rules}
-use Rattle.lts.specs.Bounded.{any_below}
+use Prim.Native.Nat.{ℕ, ◌<◌, ◌-◌}
 use Rattle.lts.specs.System.{Set, Rel}
-use Rattle.lts.proofs.Below.{clash, either, any-yes}
-use Rattle.rows.specs.Rows.{in_row, row_of, Next}
+use Rattle.rows.specs.Rows.{in_row}
 use Rattle.sets.specs.Sets.{set_at}
-use Rattle.sets.specs.Parts.{Parted}
-use Rattle.sets.proofs.Lists.{set-in}
-use Rattle.splitting.specs.Split.{Unsplit}
-use Rattle.sets.proofs.Sweep.{Swept, sweep-first, sweep-next, sweep-end}
+use Rattle.sets.proofs.Sweep.{Swept}
 use Rattle.splitting.proofs.sweep_split.Given as goal
 
 -- the block of y is in `out`, if y is in L and some member is outside Rem

@@ -1,7 +1,6 @@
 -- `splitting::with_split` meets its contract. Assumes nothing.
 use mathlib.Core.Path.{sym, ap, ◌∙◌}
 use mathlib.Core.Bool.{Bool, cond, ◌||◌}
-use borrow.Author.Rules.{rules}
 use Rattle.lts.proofs.Below.{any-cong}
 use Rattle.rows.specs.Rows.{in_row, row_of}
 use Rattle.sets.proofs.Lists.{set-in}

@@ -3,7 +3,6 @@ use Prim.Native.Nat.{◌/◌}
 use native.Mathlib.Omega.{arith}
 use lib.ListN.{length}
 use Rattle.case_files.proofs.Counting.{counts}
-use borrow.Author.Rules.{rules}
 use Rattle.case_files.proofs.fields.load_numbers.Goals as goal
 
 pub returns : goal.returns

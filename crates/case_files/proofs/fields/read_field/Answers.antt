@@ -3,7 +3,6 @@ use mathlib.Core.Path.{sym}
 use lib.ListN.{drop}
 use lib.Seq.{length-take-le}
 use Rattle.case_files.proofs.Counting.{counts-front}
-use borrow.Author.Rules.{rules}
 use Rattle.case_files.proofs.fields.read_field.Goals as goal
 
 pub slice_bounds-read_full-end-2 : goal.slice_bounds-read_full-end-2
