@@ -1,5 +1,5 @@
 -- What is known of an encoding after each of the reader's checks. `ReadableAs` is what the loader asks of its callers; it follows from the
--- reader's answer by the law `Readable-of` (proofs/Reader.antt).
+-- reader's answer by the law `readable_of` (proofs/Reader.antt).
 use Rattle.std.specs.Prelude.{ℕ, ◌≤◌, ◌<◌, ◌≡◌, Bool, true, ◌&&◌, List, length}
 use Rattle.encoding.specs.declared.Header.{Header}
 use Rattle.encoding.specs.declared.TransitionRecord.{TransitionRecord}

@@ -1,6 +1,6 @@
 -- `adjacency::actions_entering` meets its contract: by `entering-more`, word by word. Assumes nothing.
 use mathlib.Core.Path.{◌≡◌, ap, ◌∙◌}
-use Prim.Native.Nat.{◌-◌, ◌*◌, ◌≤◌}
+use Prim.Native.Nat.{◌*◌}
 use native.Mathlib.Omega.{arith}
 use Rattle.adjacency.proofs.Lookups.{entering, entering-none, entering-more}
 use borrow.Author.Rules.{rules}

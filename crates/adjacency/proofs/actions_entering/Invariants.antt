@@ -1,8 +1,6 @@
-use mathlib.Core.Path.{◌≡◌, ap, ◌∙◌}
+use mathlib.Core.Path.{◌≡◌}
 use Prim.Native.Nat.{◌-◌, ◌*◌, ◌≤◌}
-use native.Mathlib.Omega.{arith}
-use Rattle.adjacency.proofs.Lookups.{entering, entering-none, entering-more}
-use borrow.Author.Rules.{rules}
+use Rattle.adjacency.proofs.Lookups.{entering}
 use Rattle.adjacency.proofs.actions_entering.Given as goal
 
 abbrev pub invariant-loop-c : goal.invariant-loop-c

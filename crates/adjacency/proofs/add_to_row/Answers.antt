@@ -9,7 +9,6 @@ use lib.ListN.{length, get_or}
 use Rattle.rows.specs.Rows.{in_row, row_of}
 use Rattle.adjacency.specs.Building.{claimed}
 use Rattle.adjacency.proofs.Places.{claimed-room}
-use borrow.Author.Rules.{rules}
 use Rattle.adjacency.proofs.add_to_row.Goals as goal
 
 pub insert-requires : goal.insert-requires

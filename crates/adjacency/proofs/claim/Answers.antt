@@ -1,6 +1,5 @@
 -- `adjacency::claim` meets its contract: by `claimed-free` and `claimed-kept`. Assumes nothing.
 use Rattle.adjacency.proofs.Places.{claimed-free, claimed-kept}
-use borrow.Author.Rules.{rules}
 use Rattle.adjacency.proofs.claim.Goals as goal
 
 pub returns-then-places-x-eq0 : goal.returns-then-places-x-eq0

@@ -1,6 +1,6 @@
 -- `adjacency::index_transitions` meets its contract: by `building-more`, transition by transition, and `index-built`. Assumes nothing.
 use mathlib.Core.Path.{◌≡◌, refl, ap, subst}
-use Prim.Native.Nat.{ℕ, ◌+◌, ◌-◌, ◌*◌, ◌≤◌, ◌<◌}
+use Prim.Native.Nat.{ℕ, ◌+◌, ◌*◌, ◌≤◌, ◌<◌}
 use native.Mathlib.Omega.{arith}
 use lib.ListN.{length}
 use Rattle.transitions.specs.Table.{actions_of, count_of}

@@ -1,12 +1,7 @@
-use mathlib.Core.Path.{◌≡◌, refl, ap, subst}
-use Prim.Native.Nat.{ℕ, ◌+◌, ◌-◌, ◌*◌, ◌≤◌, ◌<◌}
-use native.Mathlib.Omega.{arith}
+use mathlib.Core.Path.{◌≡◌}
+use Prim.Native.Nat.{◌-◌, ◌≤◌}
 use lib.ListN.{length}
-use Rattle.transitions.specs.Table.{actions_of, count_of}
 use Rattle.adjacency.specs.Building.{Building}
-use Rattle.adjacency.proofs.Building.{building-begin, building-more}
-use Rattle.adjacency.proofs.Built.{building-room, index-built}
-use borrow.Author.Rules.{rules}
 use Rattle.adjacency.proofs.index_transitions.Given as goal
 
 abbrev pub invariant-loop-i : goal.invariant-loop-i

@@ -1,12 +1,10 @@
 -- `adjacency::join_actions` meets its contract: by the laws of `JoiningWords`. Assumes nothing.
-use Prim.Native.Nat.{ℕ, ◌+◌, ◌-◌, ◌*◌, ◌^◌, ◌<◌}
+use Prim.Native.Nat.{◌-◌, ◌^◌, ◌<◌}
 use native.Mathlib.Omega.{arith}
-use mathlib.Core.List.{List}
 use lib.Bits.{and_le_r}
 use lib.Count.{count_trailing_zeros}
-use lib.ListN.{get_or}
 use Rattle.sets.proofs.Walks.{rest-next}
-use Rattle.adjacency.proofs.Words.{JoiningWords, words-begin, words_more, words-end}
+use Rattle.adjacency.proofs.Words.{words-begin, words_more, words-end}
 use borrow.Author.Rules.{rules}
 use Rattle.adjacency.proofs.join_actions.Goals.{In-loop-left}
 use Rattle.adjacency.proofs.join_actions.Invariants.{word_at}

@@ -1,12 +1,7 @@
-use Prim.Native.Nat.{ℕ, ◌+◌, ◌-◌, ◌*◌, ◌^◌, ◌<◌}
-use native.Mathlib.Omega.{arith}
+use Prim.Native.Nat.{ℕ, ◌+◌, ◌*◌}
 use mathlib.Core.List.{List}
-use lib.Bits.{and_le_r}
-use lib.Count.{count_trailing_zeros}
 use lib.ListN.{get_or}
-use Rattle.sets.proofs.Walks.{rest-next}
-use Rattle.adjacency.proofs.Words.{JoiningWords, words-begin, words_more, words-end}
-use borrow.Author.Rules.{rules}
+use Rattle.adjacency.proofs.Words.{JoiningWords}
 use Rattle.adjacency.proofs.join_actions.Given as goal
 
 -- the word of state i of word c

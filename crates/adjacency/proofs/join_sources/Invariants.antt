@@ -1,16 +1,8 @@
-use mathlib.Core.Path.{◌≡◌}
 use mathlib.Core.List.{List}
-use Prim.Native.Nat.{ℕ, ◌+◌, ◌-◌, ◌*◌, ◌^◌, ◌<◌}
-use native.Mathlib.Omega.{arith}
-use mir.Syntax.{w64}
-use lib.Bits.{and_le_r}
-use lib.Count.{count_trailing_zeros}
-use lib.ListN.{length}
+use Prim.Native.Nat.{ℕ, ◌+◌, ◌*◌}
 use Rattle.lts.specs.System.{Set}
-use Rattle.sets.proofs.Walks.{rest-next}
 use Rattle.adjacency.proofs.Lookups.{sources_of}
-use Rattle.adjacency.proofs.Words.{Joining, join-begin, join_more, join-end}
-use borrow.Author.Rules.{rules, elem_Fits}
+use Rattle.adjacency.proofs.Words.{Joining}
 use Rattle.adjacency.proofs.join_sources.Given as goal
 
 -- the sources of the transitions into state i of word c

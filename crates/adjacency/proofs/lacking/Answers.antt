@@ -1,11 +1,9 @@
 -- `adjacency::lacking` meets its contract: by `kept_word`, word by word, and `kept-lacking`. Assumes nothing.
 use mathlib.Core.Path.{◌≡◌, refl, ◌∙◌}
-use mathlib.Core.List.{◌++◌}
-use Prim.Native.Nat.{ℕ, ◌-◌, ◌≤◌}
+use Prim.Native.Nat.{ℕ}
 use native.Mathlib.Omega.{arith}
-use lib.ListN.{length, length-set, drop, replicate}
+use lib.ListN.{length-set, replicate}
 use Rattle.lts.specs.Bounded.{list_below}
-use Rattle.rows.specs.Rows.{row_of}
 use Rattle.rows.proofs.Rows.{row-store, row_done, row-whole}
 use Rattle.sets.proofs.Keeping.{kept_word}
 use Rattle.adjacency.proofs.Lookups.{lacks, kept, kept-lacking}

@@ -1,14 +1,9 @@
-use mathlib.Core.Path.{◌≡◌, refl, ◌∙◌}
+use mathlib.Core.Path.{◌≡◌}
 use mathlib.Core.List.{◌++◌}
 use Prim.Native.Nat.{ℕ, ◌-◌, ◌≤◌}
-use native.Mathlib.Omega.{arith}
-use lib.ListN.{length, length-set, drop, replicate}
-use Rattle.lts.specs.Bounded.{list_below}
+use lib.ListN.{length, drop, replicate}
 use Rattle.rows.specs.Rows.{row_of}
-use Rattle.rows.proofs.Rows.{row-store, row_done, row-whole}
-use Rattle.sets.proofs.Keeping.{kept_word}
-use Rattle.adjacency.proofs.Lookups.{lacks, kept, kept-lacking}
-use borrow.Author.Rules.{rules}
+use Rattle.adjacency.proofs.Lookups.{kept}
 use Rattle.adjacency.proofs.lacking.Given as goal
 
 abbrev pub invariant-loop-c : goal.invariant-loop-c

@@ -1,18 +1,16 @@
 -- `adjacency::lacking_word` meets its contract: by the laws of `Keeping`. Assumes nothing.
 use mathlib.Core.Path.{◌≡◌, ap, ◌∙◌}
 use mathlib.Core.Bool.{Bool, cond, not, ◌&&◌}
-use mathlib.Core.List.{List}
-use Prim.Native.Nat.{ℕ, ◌+◌, ◌*◌, ◌^◌, ◌<◌}
+use Prim.Native.Nat.{◌+◌, ◌*◌, ◌^◌, ◌<◌}
 use native.Mathlib.Omega.{arith}
 use lib.Count.{count_trailing_zeros}
 use Rattle.lts.specs.Bounded.{any_below}
-use Rattle.lts.specs.System.{Set}
 use Rattle.lts.proofs.Below.{any-cong}
 use Rattle.rows.specs.Rows.{in_row}
 use Rattle.sets.proofs.Lists.{set-in}
 use Rattle.sets.proofs.Walks.{part-less, low-lt}
-use Rattle.sets.proofs.Keeping.{Keeping, keep-begin, keep-more, keep-end}
-use Rattle.adjacency.proofs.Lookups.{targets_of, lacks}
+use Rattle.sets.proofs.Keeping.{keep-begin, keep-more, keep-end}
+use Rattle.adjacency.proofs.Lookups.{targets_of}
 use borrow.Author.Rules.{rules}
 use Rattle.adjacency.proofs.lacking_word.Goals.{In-loop-left}
 use Rattle.adjacency.proofs.lacking_word.Invariants.{test}

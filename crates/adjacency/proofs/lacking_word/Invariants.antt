@@ -1,18 +1,8 @@
-use mathlib.Core.Path.{◌≡◌, ap, ◌∙◌}
-use mathlib.Core.Bool.{Bool, cond, not, ◌&&◌}
 use mathlib.Core.List.{List}
-use Prim.Native.Nat.{ℕ, ◌+◌, ◌*◌, ◌^◌, ◌<◌}
-use native.Mathlib.Omega.{arith}
-use lib.Count.{count_trailing_zeros}
-use Rattle.lts.specs.Bounded.{any_below}
+use Prim.Native.Nat.{ℕ, ◌+◌, ◌*◌}
 use Rattle.lts.specs.System.{Set}
-use Rattle.lts.proofs.Below.{any-cong}
-use Rattle.rows.specs.Rows.{in_row}
-use Rattle.sets.proofs.Lists.{set-in}
-use Rattle.sets.proofs.Walks.{part-less, low-lt}
-use Rattle.sets.proofs.Keeping.{Keeping, keep-begin, keep-more, keep-end}
-use Rattle.adjacency.proofs.Lookups.{targets_of, lacks}
-use borrow.Author.Rules.{rules}
+use Rattle.sets.proofs.Keeping.{Keeping}
+use Rattle.adjacency.proofs.Lookups.{lacks}
 use Rattle.adjacency.proofs.lacking_word.Given as goal
 
 -- state i of word c has no transition into the set

@@ -1,6 +1,5 @@
 -- `adjacency::removed` meets its contract: by `removed-whole` and `removed-lacking`. Assumes nothing.
 use Rattle.adjacency.proofs.Lookups.{removed-whole, removed-lacking}
-use borrow.Author.Rules.{rules}
 use Rattle.adjacency.proofs.removed.Goals as goal
 
 pub returns-then-whole : goal.returns-then-whole

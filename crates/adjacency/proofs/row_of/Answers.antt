@@ -3,7 +3,6 @@ use mathlib.Core.Path.{ap, ◌∙◌}
 use Prim.Native.Nat.{ℕ, ◌+◌}
 use Rattle.rows.specs.Rows.{row_of}
 use Rattle.sets.specs.Sets.{set_at}
-use borrow.Author.Rules.{rules}
 use Rattle.adjacency.proofs.row_of.Goals as goal
 
 pub returns : goal.returns

@@ -1,6 +1,6 @@
 -- `adjacency::sources_into` meets its contract: by `found-more`, word by word, and `found-into`. Assumes nothing.
 use mathlib.Core.Path.{◌≡◌, ap, ◌∙◌}
-use Prim.Native.Nat.{ℕ, ◌-◌, ◌*◌, ◌≤◌}
+use Prim.Native.Nat.{ℕ, ◌*◌}
 use native.Mathlib.Omega.{arith}
 use Rattle.rows.specs.Rows.{row_of}
 use Rattle.adjacency.proofs.Lookups.{found, found_none, found-more, found-into}

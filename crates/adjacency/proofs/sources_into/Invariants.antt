@@ -1,9 +1,7 @@
-use mathlib.Core.Path.{◌≡◌, ap, ◌∙◌}
-use Prim.Native.Nat.{ℕ, ◌-◌, ◌*◌, ◌≤◌}
-use native.Mathlib.Omega.{arith}
+use mathlib.Core.Path.{◌≡◌}
+use Prim.Native.Nat.{◌-◌, ◌*◌, ◌≤◌}
 use Rattle.rows.specs.Rows.{row_of}
-use Rattle.adjacency.proofs.Lookups.{found, found_none, found-more, found-into}
-use borrow.Author.Rules.{rules}
+use Rattle.adjacency.proofs.Lookups.{found}
 use Rattle.adjacency.proofs.sources_into.Given as goal
 
 abbrev pub invariant-loop-c : goal.invariant-loop-c
