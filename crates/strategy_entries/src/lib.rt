@@ -1,4 +1,6 @@
 // Strategies in a lent slice of entries (document 01, "Plans"): few, thin functions that read or write one entry and call the others.
+#![tactic(auto)]
+
 ghost use Rattle.std.specs.Prelude.{◌≡◌, ◌≤◌, ◌+◌, ◌*◌, ◌++◌, length, get_or, take, drop};
 ghost use Rattle.lts.specs.Strategy.{entries_of, blank};
 ghost use Rattle.strategy.specs.Check.{check_reply, check_call, CheckPromise};

@@ -1,6 +1,5 @@
 -- `strategy_depth::entry_mark` meets its contract: by the action.
 use Rattle.strategy_depth.proofs.Replies.{entry-outside, entry-moved}
-use borrow.Author.Rules.{rules}
 use Rattle.strategy_depth.proofs.entry_mark.Goals as goal
 
 pub returns-then-a-eq0 : goal.returns-then-a-eq0

@@ -1,5 +1,4 @@
 -- `strategy_depth::lower` meets its contract: the lower mark is written.
-use borrow.Author.Rules.{rules}
 use Rattle.strategy_depth.proofs.lower.Goals as goal
 
 pub returns : goal.returns

@@ -1,12 +1,9 @@
 -- `strategy_depth::reply_depth` meets its contract: transition by transition of q's row. Assumes nothing.
-use Prim.Native.Nat.{◌+◌, ◌-◌, ◌≤◌}
-use mathlib.Core.Path.{◌≡◌, subst⁻¹}
+use Prim.Native.Nat.{◌+◌}
+use mathlib.Core.Path.{subst⁻¹}
 use native.Mathlib.Omega.{arith}
-use Rattle.transitions.specs.Table.{offset_at}
 use Rattle.transitions.proofs.Entries.{row-most, row_below}
-use Rattle.strategy_depth.specs.Marks.{mark_of}
 use Rattle.strategy_depth.proofs.Replies.{Seen, seen_none, seen_more, seen_done, seen-open}
-use borrow.Author.Rules.{rules}
 use Rattle.strategy_depth.proofs.reply_depth.Goals as goal
 
 pub loop-i-init : goal.loop-i-init

@@ -1,11 +1,8 @@
 use Prim.Native.Nat.{◌+◌, ◌-◌, ◌≤◌}
-use mathlib.Core.Path.{◌≡◌, subst⁻¹}
-use native.Mathlib.Omega.{arith}
+use mathlib.Core.Path.{◌≡◌}
 use Rattle.transitions.specs.Table.{offset_at}
-use Rattle.transitions.proofs.Entries.{row-most, row_below}
 use Rattle.strategy_depth.specs.Marks.{mark_of}
-use Rattle.strategy_depth.proofs.Replies.{Seen, seen_none, seen_more, seen_done, seen-open}
-use borrow.Author.Rules.{rules}
+use Rattle.strategy_depth.proofs.Replies.{Seen}
 use Rattle.strategy_depth.proofs.reply_depth.Given as goal
 
 abbrev pub invariant-loop-i : goal.invariant-loop-i

@@ -2,7 +2,6 @@
 use mathlib.Core.Path.{sym, ◌∙◌}
 use native.Mathlib.Omega.{arith}
 use Rattle.strategy_depth.proofs.Replies.{mark-own, mark-other}
-use borrow.Author.Rules.{rules}
 use Rattle.strategy_depth.proofs.reply_mark.Goals as goal
 
 pub returns-then-action-a : goal.returns-then-action-a
