@@ -4,7 +4,6 @@ use mathlib.Core.Bool.{Bool, cond}
 use lib.ListN.{get_or}
 use Rattle.rows.specs.Rows.{in_row}
 use Rattle.adjacency.specs.Adjacency.{actions_entering}
-use borrow.Author.Rules.{rules}
 use Rattle.refinement.proofs.actions_of.Goals as goal
 
 pub returns-then-any : goal.returns-then-any

@@ -1,5 +1,5 @@
 -- `refinement::begin` meets its contract: the start as sets, cut to the enabled states, is K at the beginning. Assumes nothing.
-use mathlib.Core.Path.{◌≡◌, refl, sym, ap, ◌∙◌, subst⁻¹}
+use mathlib.Core.Path.{ap, ◌∙◌, subst⁻¹}
 use Prim.Native.Nat.{ℕ}
 use native.Mathlib.Omega.{arith}
 use Rattle.lts.specs.Bounded.{restrict}
@@ -10,7 +10,6 @@ use Rattle.sets.proofs.Lists.{sets-long}
 use Rattle.partition.specs.Pending.{Ordered}
 use Rattle.refinement.proofs.Beginning.{initial-related, initial-viewed, ordered-first}
 use Rattle.refinement.proofs.Loop.{loop-begin}
-use borrow.Author.Rules.{rules}
 use Rattle.refinement.proofs.begin.Goals as goal
 
 pub from_matrix-requires : goal.from_matrix-requires

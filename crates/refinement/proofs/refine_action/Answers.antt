@@ -1,9 +1,7 @@
 -- `refinement::refine_action` meets its contract: Rem and the hits are those of the rule, and one action is `splitting::refine_by`. Assumes nothing.
 use mathlib.Core.Path.{sym, ◌∙◌}
-use borrow.Author.Tests.{not-true}
 use Rattle.sets.proofs.Lists.{set-in, any-off}
 use Rattle.refinement.proofs.Actions.{acted-cong, idle-acted, hits-owned}
-use borrow.Author.Rules.{rules}
 use Rattle.refinement.proofs.refine_action.Goals as goal
 
 pub removed-rem-requires : goal.removed-rem-requires

@@ -1,16 +1,10 @@
 -- `refinement::refine_actions` meets its contract: by `Going`, over the bits of the word of actions. Assumes nothing.
-use mathlib.Core.Path.{◌≡◌, sym, ap, ◌∙◌}
-use Prim.Native.Nat.{ℕ, ◌+◌, ◌-◌, ◌<◌, ◌≤◌}
+use mathlib.Core.Path.{sym, ◌∙◌}
+use Prim.Native.Nat.{◌-◌, ◌≤◌}
 use native.Mathlib.Omega.{arith}
-use mathlib.Core.List.{List}
-use lib.ListN.{length}
-use lib.Bits.{bit_and}
 use lib.Count.{count_trailing_zeros}
-use Rattle.rows.specs.Rows.{in_row}
-use Rattle.sets.specs.Sets.{set_at}
 use Rattle.sets.proofs.Lists.{sets-long}
-use Rattle.refinement.specs.Engine.{Owning, Fixed, removed_by, hits_by}
-use Rattle.refinement.proofs.Actions.{Going, going-begin, going_next, going_end, next-most}
+use Rattle.refinement.proofs.Actions.{going-begin, going_next, going_end, next-most}
 use lib.Bits.{and_le_r}
 use lib.Count.{trailing_le}
 use borrow.Author.Rules.{rules}

@@ -6,7 +6,6 @@ use native.Mathlib.Omega.{arith}
 use lib.Dec.{leb}
 use borrow.Author.Tests.{leb-true}
 use Rattle.lts.proofs.Below.{and-fst, and-snd}
-use borrow.Author.Rules.{rules}
 use Rattle.refinement.proofs.refine_all.Goals as goal
 
 -- what a test of both counts says

@@ -1,18 +1,15 @@
 -- `refinement::refine_in` meets its contract: the run on lists of sets, between matrices. Assumes nothing.
-use mathlib.Core.Path.{◌≡◌, sym, ap, ◌∙◌, subst⁻¹, subst}
-use mathlib.Core.List.{List}
-use Prim.Native.Nat.{ℕ, ◌≤◌}
+use mathlib.Core.Path.{sym, ap, ◌∙◌, subst⁻¹}
+use Prim.Native.Nat.{ℕ}
 use native.Mathlib.Omega.{arith}
 use lib.Dec.{ltb}
-use lib.ListN.{length, replicate, length-replicate}
+use lib.ListN.{replicate, length-replicate}
 use Rattle.rows.specs.Rows.{row_of}
 use Rattle.rows.proofs.Rows.{get_or-zeros}
 use Rattle.relation.specs.Matrix.{Matrix}
-use Rattle.relation.proofs.Matrices.{length-matrix_of}
 use Rattle.transitions.specs.Table.{states_of}
 use Rattle.sets.proofs.Lists.{sets-long, sets-none}
 use Rattle.refinement.proofs.Loop.{related-clear, blocks-clear, matrix-of-list}
-use borrow.Author.Rules.{rules}
 use Rattle.refinement.proofs.refine_in.Goals as goal
 
 pub states_below-all-requires : goal.states_below-all-requires

@@ -3,7 +3,6 @@ use Prim.Native.Nat.{ℕ}
 use native.Mathlib.Omega.{arith}
 use lib.ListN.{length-replicate}
 use Rattle.rows.proofs.Rows.{get_or-zeros}
-use borrow.Author.Rules.{rules}
 use Rattle.refinement.proofs.refine_small.Goals as goal
 
 pub refine_in-requires : goal.refine_in-requires

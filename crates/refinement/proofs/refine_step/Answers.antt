@@ -6,7 +6,6 @@ use Rattle.rows.specs.Rows.{in_row}
 use Rattle.rows.proofs.Rows.{row_of-cong}
 use Rattle.sets.proofs.Lists.{set-in, sets-long}
 use Rattle.refinement.proofs.Steps.{step-owning, step-fixed, step-made}
-use borrow.Author.Rules.{rules}
 use Rattle.refinement.proofs.refine_step.Goals as goal
 
 pub turn_of-turn-requires : goal.turn_of-turn-requires

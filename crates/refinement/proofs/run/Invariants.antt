@@ -1,19 +1,14 @@
-use mathlib.Core.Path.{◌≡◌, sym, ◌∙◌}
+use mathlib.Core.Path.{◌≡◌}
 use mathlib.Core.List.{List}
 use Prim.Native.Nat.{ℕ, ◌-◌}
-use native.Mathlib.Omega.{arith}
 use lib.Dec.{ltb}
 use lib.ListN.{length}
 use Rattle.rows.specs.Rows.{row_of}
-use Rattle.rows.proofs.Rows.{in_row-zeros}
 use Rattle.relation.specs.Matrix.{relation_of}
 use Rattle.transitions.specs.Table.{states_of, table_lts}
-use Rattle.sets.proofs.Lists.{set_long, sets-long}
 use Rattle.adjacency.specs.Adjacency.{Index}
 use Rattle.refinement.specs.Engine.{Start, State}
-use Rattle.refinement.proofs.Pending.{pending-kept, parted-minus}
-use Rattle.refinement.proofs.Loop.{At, small-steps, parted-first, owned-first, pending-first, loop-below, loop-step, loop-next, end-steps, end-related, end-blocks, long-related, long-viewed, long-blocks}
-use borrow.Author.Rules.{rules}
+use Rattle.refinement.proofs.Loop.{At}
 use Rattle.refinement.proofs.run.Given as goal
 
 abbrev pub invariant-loop-all : goal.invariant-loop-all

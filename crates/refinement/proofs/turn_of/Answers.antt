@@ -9,7 +9,6 @@ use Rattle.rows.specs.Rows.{in_row}
 use Rattle.adjacency.specs.Adjacency.{actions_entering}
 use Rattle.rows.proofs.Rows.{row_of-cong}
 use Rattle.sets.proofs.Lists.{set-in}
-use borrow.Author.Rules.{rules}
 use Rattle.refinement.proofs.turn_of.Goals as goal
 
 pub returns : goal.returns

@@ -1,22 +1,10 @@
 -- `strategy_rounds::search_rounds` meets its contract: by the laws of `Searching`. Assumes nothing.
 use mathlib.Core.Path.{sym, ap, ◌∙◌}
-use Prim.Native.Nat.{ℕ, ◌+◌, ◌*◌, ◌≤◌}
-use native.Mathlib.Omega.{arith}
 use lib.ListN.{length}
-use Rattle.transitions.specs.Table.{states_of}
 use Rattle.relation.proofs.Matrices.{formed-of, length-matrix_of}
-use Rattle.strategy_rounds.proofs.Refutations.{square-most}
 use Rattle.strategy_rounds.proofs.Searches.{falls-at-first, search-starts, falls-later-on, falls-at-none, fewer, search-goes-on}
 use Rattle.strategy_rounds.proofs.search_rounds.Goals.{At-loop-p}
 use Rattle.strategy_rounds.proofs.search_rounds.Goals as goal
-
--- the numbers of a turn have room
-bounds : (c : At-loop-p) → let n = c.states-n.result in
-    (n * n ≤ 65536) × (c.loop-p.left + c.loop-p.j ≤ n * n)
-bounds c =
-    let e = c.states-n.ensures.0 in
-    let square = ap (λ (k : ℕ). k * k) e in
-    (omega (arith, square, square-most (states_of c.args.table.now) c.requires.formed.0.states), omega (arith, square, c.loop-p.invariant.1.room))
 
 pub count_pairs-left-requires : goal.count_pairs-left-requires
 count_pairs-left-requires c = rw c.states-n.ensures.0 (c.requires.formed.1, c.requires.formed.0.states)
