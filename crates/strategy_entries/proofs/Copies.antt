@@ -1,5 +1,5 @@
 -- A list whose first elements are copied from another. Assumes nothing.
-use Prim.Native.Nat.{ℕ, zero, suc, ◌+◌, ◌≤◌, ◌<◌}
+use Prim.Native.Nat.{ℕ, zero, suc, ◌+◌, ◌<◌}
 use mathlib.Core.Path.{◌≡◌, refl, sym, ◌∙◌, ap}
 use mathlib.Core.List.{List, [], ◌∷◌, ◌++◌}
 use native.Mathlib.Nat.{not-suc-le-zero, le_of_suc-le-suc}
@@ -18,9 +18,3 @@ module _ {A : Type 0} where
 
   pub fill_step : (i : ℕ) (es ys : List A) (d : A) → i < length es → i < length ys → set (filled i es ys) i (get_or es i d) ≡ filled (i + 1) es ys
   fill_step i es ys d he hy = fill_suc i es ys d he hy ∙ ap (λ (k : ℕ). filled k es ys) (sym (add-one i))
-
-  pub fill-length : (i : ℕ) (es ys : List A) → i ≤ length es → i ≤ length ys → length (filled i es ys) ≡ length ys
-  fill-length zero es ys he hy = refl
-  fill-length (suc i) [] ys he hy = absurd (not-suc-le-zero he)
-  fill-length (suc i) (e ∷ es) [] he hy = absurd (not-suc-le-zero hy)
-  fill-length (suc i) (e ∷ es) (y ∷ ys) he hy = ap suc (fill-length i es ys (le_of_suc-le-suc he) (le_of_suc-le-suc hy))
