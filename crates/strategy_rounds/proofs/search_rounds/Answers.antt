@@ -3,7 +3,6 @@ use mathlib.Core.Path.{sym, ap, ◌∙◌}
 use lib.ListN.{length}
 use Rattle.relation.proofs.Matrices.{formed-of, length-matrix_of}
 use Rattle.strategy_rounds.proofs.Searches.{falls-at-first, search-starts, falls-later-on, falls-at-none, fewer, search-goes-on}
-use Rattle.strategy_rounds.proofs.search_rounds.Goals.{At-loop-p}
 use Rattle.strategy_rounds.proofs.search_rounds.Goals as goal
 
 pub count_pairs-left-requires : goal.count_pairs-left-requires
