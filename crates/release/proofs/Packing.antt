@@ -1,14 +1,12 @@
 -- A reply is unpacked from the number that it is packed into, where its values keep to their places.
-use Prim.Native.Nat.{ℕ, zero, suc, ◌+◌, ◌*◌, ◌-◌, ◌/◌, ◌%◌, ◌^◌, ◌≤◌, ◌<◌}
+use Prim.Native.Nat.{ℕ, suc, ◌+◌, ◌*◌, ◌-◌, ◌/◌, ◌%◌, ◌^◌, ◌≤◌, ◌<◌}
 use native.Mathlib.Omega.{arith}
 use native.Mathlib.Nat.{mul_comm, mul_assoc, mul-le-mul_left, mul-suc, add-mul}
-use mathlib.Core.Path.{◌≡◌, refl, sym, ap, ap₂, ◌∙◌, subst}
-use mathlib.Core.Bool.{true, false, cond}
+use mathlib.Core.Path.{◌≡◌, refl, ap, ap₂, ◌∙◌}
 use mathlib.Core.List.{List, [], ◌∷◌}
-use borrow.Author.Tests.{eq-eqb, ne_eqb}
+use borrow.Author.Tests.{ne_eqb}
 use lib.Pow.{pow-add, high, low}
-use lib.Dec.{eqb}
-use Rattle.lts.specs.Rule.{Reply, given, refused}
+use Rattle.lts.specs.Rule.{given, refused}
 use Rattle.lts.specs.Refusal.{refusal_number, refusal_record}
 use Rattle.lts.specs.declared.Refusal.{Refusal}
 use Rattle.lts.proofs.Rule.{number-some}

@@ -1,5 +1,7 @@
 // The exported calls (document 01, "Hand play and comparison"): the release tool calls coarsest and compare, tests and bindings the others.
 // Grids and 16-bit lists are carried as bytes, low byte first. The result is one number that carries the reply, as specs/Packed.antt says.
+#![tactic(auto)]
+
 ghost use Rattle.std.specs.Prelude.{◌+◌, ◌*◌, ◌≡◌};
 ghost use Rattle.lts.specs.System.{termination_preorder};
 ghost use Rattle.lts.specs.Ready.{ready_preorder};
