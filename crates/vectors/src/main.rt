@@ -1,5 +1,7 @@
 // Runs every call of the library on cases from standard input, and prints a line of numbers for each: the case's number, its operation, the
 // refusal and its record's number (0 for none), the values, and a checksum of each lent buffer as it is afterwards.
+#![tactic(auto)]
+
 mod refinements;
 mod relations;
 mod sheets;
