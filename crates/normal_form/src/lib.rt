@@ -7,7 +7,8 @@ ghost use Rattle.lts.specs.Rule.{checked_reply};
 ghost use Rattle.lts.specs.Transitions.{transitions};
 ghost use Rattle.encoding.specs.Records.{labels_length, state_at, transition_at, encoding_length};
 ghost use Rattle.transitions.specs.Table.{states_of, count_of, entry_at, table_lts, Formed};
-ghost use Rattle.normal_form.specs.Normal.{first_index, next_index, normal_header, normal_state, normal_transition, states_bytes, transitions_bytes, sheet_bytes};
+ghost use Rattle.normal_form.specs.Normal.{first_index, next_index, normal_header, normal_state, normal_transition};
+ghost use Rattle.normal_form.specs.Normal.{states_bytes, transitions_bytes, sheet_bytes};
 ghost use Rattle.normal_form.specs.Normalise.{normalise_call, NormalisePromise};
 ghost use Rattle.normal_form.specs.Written.{Counts, transitions_from};
 

@@ -234,7 +234,8 @@ fn begin(
 )
     requires start { Start (states_of table.now) start.now × (all ≡ row_of 4 (λ q. ltb q (states_of table.now)))
         × ((places : List ℕ) × Index table.now places rows.now) }
-    requires related_value { (related.old ≡ sets_of 256 (λ p q. false)) × (viewed.old ≡ sets_of 256 (λ p q. false)) × (blocks.old ≡ sets_of 256 (λ p q. false)) }
+    requires related_value { (related.old ≡ sets_of 256 (λ p q. false)) × (viewed.old ≡ sets_of 256 (λ p q. false))
+        × (blocks.old ≡ sets_of 256 (λ p q. false)) }
     ensures { (schedule : List ℕ) → let t = table.now in
         State (table_lts t) (relation_of (states_of t) start.now) schedule 0 related.new viewed.new blocks.new }
 {
