@@ -1,12 +1,12 @@
 // The transitions of a table as rows of sets by action and state (crate `sets`), and the sets that one action of a refinement step needs. `places`
 // says which row has the targets, or the sources, of the transitions by an action at a state (`Index`).
+// An array that a call gives is bound before it is stored, as in `let next = f(out); out = next;`: the check does not cover `out = f(out);`.
 #![tactic(auto)]
 
 ghost use Rattle.std.specs.Prelude.{◌≡◌, true, not, ◌&&◌, ◌||◌, List, ℕ, ◌+◌, ◌*◌, ◌<◌, ◌≤◌, eqb, length, get_or};
-ghost use Rattle.lts.specs.Bounded.{any_below};
 ghost use Rattle.lts.specs.System.{into};
 ghost use Rattle.lts.specs.Refinement.{remove};
-ghost use Rattle.rows.specs.Rows.{bit, in_row, row_of, word_of};
+ghost use Rattle.rows.specs.Rows.{in_row, row_of};
 ghost use Rattle.sets.specs.Sets.{set_at};
 ghost use Rattle.transitions.specs.Table.{states_of, actions_of, count_of, table_lts, Formed};
 ghost use Rattle.adjacency.specs.Adjacency.{Index, actions_entering};
@@ -17,7 +17,7 @@ fn row_of(places: &[u16], rows: &[u64], x: usize) -> [u64; 4]
     requires { (x < length places.now) × ((64 + get_or places.now x 0) * 4 + 4 ≤ length rows.now) }
     ensures { result ≡ row_of 4 (set_at rows.now (64 + get_or places.now x 0)) }
 {
-    sets::at(rows, 64 + rows::wide(places[x]))
+    sets::at(rows, 64 + usize::from(places[x]))
 }
 
 // The states with a transition by action a.
@@ -44,31 +44,16 @@ pub fn actions_into(rows: &[u64], b: usize) -> u64
     rows[b]
 }
 
-// The actions of `from`, and those with a transition into a state of word c that `word` holds.
-fn join_actions(rows: &[u64], c: usize, word: u64, from: u64) -> u64
-    requires { (c < 4) × (256 ≤ length rows.now) }
-    ensures { result ≡ word_of 64 (λ j. bit from j || any_below 64 (λ i. bit word i && bit (get_or rows.now (64 * c + i) 0) j)) }
-{
-    let mut out = from;
-    let mut left = word;
-    while left != 0 {
-        let q = 64 * c + u64::trailing_zeros(left) as usize;
-        left = left & (left - 1);
-        out = out | rows[q];
-    }
-    out
-}
-
 // The actions with a transition into the set: bit a - 1 for action a.
 pub fn actions_entering(rows: &[u64], set: [u64; 4]) -> u64
     requires { 256 ≤ length rows.now }
     ensures { result ≡ actions_entering rows.now (in_row set) }
 {
-    let mut out: u64 = 0;
-    let mut c = 0;
-    while c < 4 {
-        out = join_actions(rows, c, set[c], out);
-        c += 1;
+    let mut out = 0;
+    for c in 0..4 {
+        for i in rows::ones(set[c]) {
+            out |= rows[64 * c + i];
+        }
     }
     out
 }
@@ -91,7 +76,7 @@ fn add_to_row(places: &mut [u16], rows: &mut [u64], x: usize, fresh: usize, q: u
         (places.new ≡ to) × (rows.new ≡ row_of (length old) (λ y. eqb y (256 * (64 + get_or to x 0) + q) || in_row old y)) }
 {
     claim(places, x, fresh);
-    rows::insert(rows, 256 * (64 + rows::wide(places[x])) + q);
+    rows::insert(rows, 256 * (64 + usize::from(places[x])) + q);
 }
 
 // Adds the transition from p by a to t; `fresh` and the row behind it are free.
@@ -116,10 +101,8 @@ pub fn index_transitions(table: &transitions::Table, places: &mut [u16], rows: &
     requires by_index { ((x : ℕ) → get_or places.old x 0 ≡ 0) × ((x : ℕ) → get_or rows.old x 0 ≡ 0) }
     ensures { Index table.now places.new rows.new }
 {
-    let k = transitions::count(table);
     let m = transitions::actions(table);
-    let mut i = 0;
-    while i < k {
+    for i in 0..transitions::count(table) {
         add_transition(
             places,
             rows,
@@ -128,33 +111,7 @@ pub fn index_transitions(table: &transitions::Table, places: &mut [u16], rows: &
             transitions::action(table, i),
             transitions::target(table, i),
         );
-        i += 1;
     }
-}
-
-// Adds the sources of the transitions by a into the states of word c that `word` holds.
-fn join_sources(
-    places: &[u16],
-    rows: &[u64],
-    a: usize,
-    c: usize,
-    word: u64,
-    from: [u64; 4],
-) -> [u64; 4]
-    requires { (c < 4) × (a ≤ 64) × (512 * (a + 1) ≤ length places.now)
-        × ((x : ℕ) → (64 + get_or places.now x 0) * 4 + 4 ≤ length rows.now) }
-    ensures { result ≡ row_of 4 (λ x. in_row from x || any_below 64 (λ i. bit word i
-        && set_at rows.now (64 + get_or places.now (512 * a + 256 + (64 * c + i)) 0) x)) }
-{
-    let mut out = from;
-    let mut left = word;
-    while left != 0 {
-        let q = 64 * c + u64::trailing_zeros(left) as usize;
-        left = left & (left - 1);
-        let next = sets::join(out, row_of(places, rows, 512 * a + 256 + q));
-        out = next;
-    }
-    out
 }
 
 // The states with a transition by a into the set.
@@ -165,36 +122,11 @@ pub fn sources_into(places: &[u16], rows: &[u64], a: usize, set: [u64; 4]) -> [u
 {
     let into = sets::meet(set, entered(rows, a));
     let mut out = [0u64; 4];
-    let mut c = 0;
-    while c < 4 {
-        let next = join_sources(places, rows, a, c, into[c], out);
-        out = next;
-        c += 1;
-    }
-    out
-}
-
-// The bits of `word`, word c of a set, whose state has no transition by a into `inside`.
-fn lacking_word(
-    places: &[u16],
-    rows: &[u64],
-    a: usize,
-    c: usize,
-    word: u64,
-    inside: [u64; 4],
-) -> u64
-    requires { (c < 4) × (a ≤ 64) × (512 * (a + 1) ≤ length places.now)
-        × ((x : ℕ) → (64 + get_or places.now x 0) * 4 + 4 ≤ length rows.now) }
-    ensures { result ≡ word_of 64 (λ i. bit word i && not (any_below 256 (λ q.
-        set_at rows.now (64 + get_or places.now (512 * a + (64 * c + i)) 0) q && in_row inside q))) }
-{
-    let mut out = 0;
-    let mut left = word;
-    while left != 0 {
-        let i = u64::trailing_zeros(left) as usize;
-        left = left & (left - 1);
-        let goes = sets::any(sets::meet(row_of(places, rows, 512 * a + (64 * c + i)), inside));
-        out = out | (sets::digit(!goes) << i);
+    for c in 0..4 {
+        for i in rows::ones(into[c]) {
+            let next = sets::join(out, row_of(places, rows, 512 * a + 256 + (64 * c + i)));
+            out = next;
+        }
     }
     out
 }
@@ -206,10 +138,13 @@ fn lacking(places: &[u16], rows: &[u64], a: usize, set: [u64; 4], inside: [u64; 
         → result ≡ row_of 4 (λ q. in_row set q && not (into (table_lts t) a (in_row inside) q)) }
 {
     let mut out = [0u64; 4];
-    let mut c = 0;
-    while c < 4 {
-        out[c] = lacking_word(places, rows, a, c, set[c], inside);
-        c += 1;
+    for c in 0..4 {
+        let mut word = 0;
+        for i in rows::ones(set[c]) {
+            let targets = row_of(places, rows, 512 * a + (64 * c + i));
+            word |= u64::from(!sets::any(sets::meet(targets, inside))) << i;
+        }
+        out[c] = word;
     }
     out
 }

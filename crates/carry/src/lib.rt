@@ -1,9 +1,10 @@
 // Words and 16-bit lists carried as bytes, low byte first.
 #![tactic(auto)]
 
-ghost use Rattle.std.specs.Prelude.{◌≡◌, ◌+◌, ◌*◌, ◌/◌, ◌^◌, ◌<◌, ◌≤◌, cond, ◌++◌, ltb, length, take, drop};
+ghost use Rattle.std.specs.Prelude.{◌≡◌, ℕ, List, map, ◌+◌, ◌*◌, ◌/◌, ◌^◌, ◌<◌, ◌≤◌, cond, ◌++◌, ltb, length, take, drop};
 ghost use Rattle.carry.specs.Carried.{number_of, digits, loaded, stored};
-ghost use Rattle.carry.specs.Bytes.{Room, LoadedFrom, LoadedSchedule};
+ghost use Rattle.carry.specs.Values.{values_same, eight_fits, two_fits};
+ghost use Rattle.carry.specs.Bytes.{Room, LoadedFrom};
 
 // The number that the k bytes from `at` on carry.
 pub fn read_number(bytes: &[u8], at: usize, k: usize) -> u64
@@ -12,79 +13,103 @@ pub fn read_number(bytes: &[u8], at: usize, k: usize) -> u64
     ensures value { result ≡ number_of (take k (drop at bytes.now)) }
     ensures upper_bound { result < 256 ^ k }
 {
-    let end = at + k;
     let mut x: u64 = 0;
-    let mut j = end;
-    while at < j {
-        j -= 1;
-        x = x * 256 + bytes[j] as u64;
+    for j in (at..at + k).rev() {
+        x = x * 256 + u64::from(bytes[j]);
     }
     x
 }
 
-// Writes the k bytes that carry y, from `at` on.
-fn write_number(bytes: &mut [u8], at: usize, k: usize, y: u64)
-    requires { at + k ≤ length bytes.old }
-    ensures { bytes.new ≡ take at bytes.old ++ (digits k y ++ drop (at + k) bytes.old) }
-{
-    let end = at + k;
-    let mut x = y;
-    let mut j = at;
-    while j < end {
-        bytes[j] = (x % 256) as u8;
-        x = x / 256;
-        j += 1;
+// A number that K bytes carry.
+pub trait Number<const K: usize>: Copy {
+    // the number, and those of a list
+    ghost value: { Self → ℕ };
+
+    ghost values: { List Self → List ℕ };
+
+    fn from_bytes(bytes: [u8; K]) -> Self
+        ensures { value result ≡ number_of bytes.entry };
+
+    fn to_bytes(self) -> [u8; K]
+        ensures { result ≡ digits K (value self) };
+
+    ghost each: { (xs : List Self) → values xs ≡ map value xs };
+
+    ghost size: { (1 ≤ K) × (K ≤ 8) };
+}
+
+impl Number<8> for u64 {
+    ghost value = { λ x. x };
+
+    ghost values = { λ xs. xs };
+
+    ghost each = { values_same };
+
+    ghost size = { eight_fits };
+
+    fn from_bytes(bytes: [u8; 8]) -> u64
+        ensures { result ≡ number_of bytes }
+    {
+        u64::from_le_bytes(bytes)
+    }
+
+    fn to_bytes(self) -> [u8; 8] {
+        u64::to_le_bytes(self)
     }
 }
 
-// Reads the words that bytes carry, into the front of words.
-pub fn load_words(bytes: &[u8], words: &mut [u64])
-    requires { length bytes.now / 8 ≤ length words.old }
-    ensures { words.new ≡ loaded 8 bytes.now words.old }
-{
-    let n = bytes.len() / 8;
-    let mut i = 0;
-    while i < n {
-        words[i] = read_number(bytes, 8 * i, 8);
-        i += 1;
+impl Number<2> for u16 {
+    ghost value = { λ x. x };
+
+    ghost values = { λ xs. xs };
+
+    ghost each = { values_same };
+
+    ghost size = { two_fits };
+
+    fn from_bytes(bytes: [u8; 2]) -> u16
+        ensures { result ≡ number_of bytes }
+    {
+        u16::from_le_bytes(bytes)
+    }
+
+    fn to_bytes(self) -> [u8; 2] {
+        u16::to_le_bytes(self)
     }
 }
 
-// Writes the bytes that carry words, into the front of bytes.
-pub fn store_words(words: &[u64], bytes: &mut [u8])
-    requires { 8 * length words.now ≤ length bytes.old }
-    ensures { bytes.new ≡ stored 8 words.now bytes.old }
+// Reads the numbers that bytes carry, into the front of numbers; a last part of fewer than K bytes is ignored.
+pub fn load<const K: usize, T: Number<K>>(bytes: &[u8], numbers: &mut [T])
+    requires { length bytes.now / K ≤ length numbers.old }
+    ensures { T.values numbers.new ≡ loaded K bytes.now (T.values numbers.old) }
 {
-    let mut i = 0;
-    while i < words.len() {
-        write_number(bytes, 8 * i, 8, words[i]);
-        i += 1;
+    let (chunks, _) = bytes.as_chunks::<K>();
+    for (i, chunk) in chunks.iter().enumerate() {
+        numbers[i] = T::from_bytes(*chunk);
     }
 }
 
-// Reads the 16-bit numbers that bytes carry, into the front of numbers; an odd last byte is ignored.
-pub fn load_numbers(bytes: &[u8], numbers: &mut [u16])
-    requires { length bytes.now / 2 ≤ length numbers.old }
-    ensures { numbers.new ≡ loaded 2 bytes.now numbers.old }
+// Writes the bytes that carry numbers, into the front of bytes.
+pub fn store<const K: usize, T: Number<K>>(numbers: &[T], bytes: &mut [u8])
+    requires { K * length numbers.now ≤ length bytes.old }
+    ensures { bytes.new ≡ stored K (T.values numbers.now) bytes.old }
 {
-    let n = bytes.len() / 2;
-    let mut i = 0;
-    while i < n {
-        numbers[i] = read_number(bytes, 2 * i, 2) as u16;
-        i += 1;
+    for (i, x) in numbers.iter().enumerate() {
+        bytes[K * i..K * i + K].copy_from_slice(&x.to_bytes());
     }
 }
 
-// Writes the bytes that carry 16-bit numbers, into the front of bytes.
-pub fn store_numbers(numbers: &[u16], bytes: &mut [u8])
-    requires { 2 * length numbers.now ≤ length bytes.old }
-    ensures { bytes.new ≡ stored 2 numbers.now bytes.old }
+// Reads numbers from their bytes, into the front of numbers. Their count is 0 where a byte is left over, or there are more than `most`.
+fn load_at_most<const K: usize, T: Number<K>>(bytes: &[u8], numbers: &mut [T], most: usize) -> usize
+    requires { (most ≤ 1024) × Room K most bytes.now (T.values numbers.old) }
+    ensures { LoadedFrom K most (length numbers.old) bytes.now result (T.values numbers.new) }
 {
-    let mut i = 0;
-    while i < numbers.len() {
-        write_number(bytes, 2 * i, 2, numbers[i] as u64);
-        i += 1;
+    let len = bytes.len();
+    if (len % K != 0) | (K * most < len) {
+        return 0;
     }
+    load(bytes, numbers);
+    len / K
 }
 
 // Reads the words of a grid from its bytes, into the front of words. Their number is 0 where the bytes are no grid's.
@@ -92,12 +117,7 @@ pub fn load_grid(bytes: &[u8], words: &mut [u64]) -> usize
     requires { Room 8 1024 bytes.now words.old }
     ensures { LoadedFrom 8 1024 (length words.old) bytes.now result words.new }
 {
-    let len = bytes.len();
-    if (len % 8 != 0) | (8192 < len) {
-        return 0;
-    }
-    load_words(bytes, words);
-    len / 8
+    load_at_most(bytes, words, 1024)
 }
 
 // Reads one number a state from its bytes, into the front of numbers. Their number is 0 where the bytes are no such list's.
@@ -105,30 +125,5 @@ pub fn load_states(bytes: &[u8], numbers: &mut [u16]) -> usize
     requires { Room 2 256 bytes.now numbers.old }
     ensures { LoadedFrom 2 256 (length numbers.old) bytes.now result numbers.new }
 {
-    let len = bytes.len();
-    if (len % 2 != 0) | (512 < len) {
-        return 0;
-    }
-    load_numbers(bytes, numbers);
-    len / 2
-}
-
-// How many bytes of a schedule are read: no run makes more than 256 * 255 steps.
-fn used(len: usize) -> usize
-    ensures { result ≡ cond (ltb 130560 len) 130560 len }
-{
-    if 130560 < len {
-        return 130560;
-    }
-    len
-}
-
-// Reads the front of a schedule from its bytes, as far as a run can use it.
-pub fn load_schedule(bytes: &[u8], numbers: &mut [u16; 65280]) -> usize
-    requires { length numbers.old ≡ 65280 }
-    ensures { LoadedSchedule 65280 bytes.now result numbers.new }
-{
-    let len = used(bytes.len());
-    load_numbers(&bytes[..len], numbers);
-    len / 2
+    load_at_most(bytes, numbers, 256)
 }

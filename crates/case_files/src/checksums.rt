@@ -1,67 +1,54 @@
 // Checksums of the bytes that buffers carry.
-ghost use Rattle.std.specs.Prelude.{◌<◌, ◌≤◌};
+ghost use Rattle.std.specs.Prelude.{◌<◌};
 
-// The checksum after the k low bytes of x more.
-fn add(h: u64, x: u64, k: usize) -> u64
-    requires { h < 1000000007 }
-    ensures { result < 1000000007 }
-{
-    let mut sum = h;
-    let mut rest = x;
-    let mut i = 0;
-    while i < k {
-        sum = (sum * 257 + rest % 256 + 1) % 1000000007;
-        rest = rest / 256;
-        i += 1;
+// The checksum of the bytes so far.
+#[derive(Clone, Copy)]
+pub struct Checksum {
+    sum: u64,
+    ghost small: { sum < 1000000007 },
+}
+
+impl Checksum {
+    pub fn new() -> Checksum {
+        Checksum { sum: 0 }
     }
-    sum
-}
 
-// The checksum after one byte more.
-fn add_byte(h: u64, b: u8) -> u64
-    requires { h < 1000000007 }
-    ensures { result < 1000000007 }
-{
-    add(h, b as u64, 1)
-}
+    pub fn sum(self) -> u64 {
+        self.sum
+    }
 
-// The checksum after the two bytes of a 16-bit number more.
-pub fn add_number(h: u64, x: u16) -> u64
-    requires { h < 1000000007 }
-    ensures { result < 1000000007 }
-{
-    add(h, x as u64, 2)
+    // After one byte more.
+    fn add(self, b: u8) -> Checksum {
+        Checksum {
+            sum: (self.sum * 257 + u64::from(b) + 1) % 1000000007,
+        }
+    }
+
+    // After bytes more.
+    fn add_all(self, bytes: &[u8]) -> Checksum {
+        let mut all = self;
+        for b in bytes {
+            all = all.add(*b);
+        }
+        all
+    }
+
+    // After the bytes of a number more.
+    pub fn add_number<const K: usize, T: carry::Number<K>>(self, x: T) -> Checksum {
+        self.add_all(&x.to_bytes())
+    }
 }
 
 // The checksum of bytes.
 pub fn bytes(list: &[u8]) -> u64 {
-    let mut h = 0;
-    let mut i = 0;
-    while i < list.len() {
-        h = add_byte(h, list[i]);
-        i += 1;
-    }
-    h
+    Checksum::new().add_all(list).sum()
 }
 
-// The checksum of the bytes that words carry.
-pub fn words(list: &[u64]) -> u64 {
-    let mut h = 0;
-    let mut i = 0;
-    while i < list.len() {
-        h = add(h, list[i], 8);
-        i += 1;
+// The checksum of the bytes that numbers carry.
+pub fn numbers<const K: usize, T: carry::Number<K>>(list: &[T]) -> u64 {
+    let mut all = Checksum::new();
+    for x in list {
+        all = all.add_number(*x);
     }
-    h
-}
-
-// The checksum of the bytes that 16-bit numbers carry.
-pub fn numbers(list: &[u16]) -> u64 {
-    let mut h = 0;
-    let mut i = 0;
-    while i < list.len() {
-        h = add_number(h, list[i]);
-        i += 1;
-    }
-    h
+    all.sum()
 }

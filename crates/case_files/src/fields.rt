@@ -1,5 +1,5 @@
 // The fields of a case on standard input: each a length in four bytes, low byte first, and that many bytes.
-ghost use Rattle.std.specs.Prelude.{◌≤◌};
+ghost use Rattle.std.specs.Prelude.{◌≡◌, ◌≤◌, length, take};
 ghost use Rattle.io.specs.Counts.{IsPrefixLen};
 
 // The next case's operation, and 0 at the end of the input.
@@ -19,12 +19,6 @@ fn read_length() -> u64 {
     carry::read_number(&four, 0, 4)
 }
 
-fn least(a: u64, b: usize) -> usize
-    ensures { result ≤ b }
-{
-    if a < b as u64 { a as usize } else { b }
-}
-
 // Where a field is not read whole, the output has a line of its own, which no expected output has.
 pub fn expect(whole: bool) {
     if !whole {
@@ -37,56 +31,33 @@ pub fn read_field(buf: &mut [u8]) -> usize
     ensures { IsPrefixLen result buf.new }
 {
     let length = read_length();
-    let n = least(length, buf.len());
+    let n = usize::try_from(length).unwrap_or(buf.len()).min(buf.len());
     let read = io::read_full(0, &mut buf[..n]);
     expect(read as u64 == length);
     read
 }
 
-// Loads the words of a field into the front of words and answers how many there are.
-fn load_words(bytes: &[u8], words: &mut [u64]) -> usize
-    ensures { IsPrefixLen result words.new }
+// Loads the numbers of a field into the front of numbers and answers how many there are.
+fn load<const K: usize, T: carry::Number<K>>(bytes: &[u8], numbers: &mut [T]) -> usize
+    ensures { (result ≤ length numbers.new) × (result ≡ length (take result numbers.new)) }
 {
     let n = bytes.len();
-    let count = n / 8;
-    expect((n % 8 == 0) & (count <= words.len()));
-    if count > words.len() {
-        return 0;
-    }
-    carry::load_words(bytes, words);
-    count
-}
-
-// Loads the 16-bit numbers of a field into the front of numbers and answers how many there are.
-fn load_numbers(bytes: &[u8], numbers: &mut [u16]) -> usize
-    ensures { IsPrefixLen result numbers.new }
-{
-    let n = bytes.len();
-    let count = n / 2;
-    expect((n % 2 == 0) & (count <= numbers.len()));
+    let count = n / K;
+    expect((n % K == 0) & (count <= numbers.len()));
     if count > numbers.len() {
         return 0;
     }
-    carry::load_numbers(bytes, numbers);
+    carry::load(bytes, numbers);
     count
 }
 
-// Reads a field of words into the front of words and answers how many there are.
-pub fn read_words(words: &mut [u64]) -> usize
-    ensures { IsPrefixLen result words.new }
+// Reads a field of numbers into the front of numbers and answers how many there are.
+pub fn read_numbers<const K: usize, T: carry::Number<K>>(numbers: &mut [T]) -> usize
+    ensures { (result ≤ length numbers.new) × (result ≡ length (take result numbers.new)) }
 {
     let mut bytes = [0u8; 8208];
     let n = read_field(&mut bytes);
-    load_words(&bytes[..n], words)
-}
-
-// Reads a field of 16-bit numbers into the front of numbers and answers how many there are.
-pub fn read_numbers(numbers: &mut [u16]) -> usize
-    ensures { IsPrefixLen result numbers.new }
-{
-    let mut bytes = [0u8; 8208];
-    let n = read_field(&mut bytes);
-    load_numbers(&bytes[..n], numbers)
+    load(&bytes[..n], numbers)
 }
 
 // Begins a field of so many 16-bit numbers, which read_number reads one by one.

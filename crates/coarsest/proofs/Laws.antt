@@ -31,8 +31,8 @@ use Rattle.relation.proofs.Checks.{checked-matrix, checked-reflexive, checked-tr
 use Rattle.partition.specs.Pending.{Reflexive}
 use Rattle.partition.proofs.Laws as partition
 use Rattle.refinement.specs.Engine.{Start}
-use Rattle.coarsest.specs.declared.Answer.TheVariants.{Done, Refused}
 use Rattle.coarsest.specs.Call.{coarsest_reply, CoarsestOutcome, coarsest_rules, refined, coarsest_call}
+use Rattle.std.specs.Prelude.{Ok, Err}
 
 -- the code's test of the two lengths
 lengths : (a b : Bool) → not a || not b ≡ not (a && b)
@@ -125,7 +125,7 @@ module _ {t start : List ℕ} (ok : Formed t) (st : Start (states_of t) start) (
     pub table-refined : {steps pairs count : ℕ} {representatives : List ℕ} → steps ≡ table_run.steps → pairs ≡ pairsBelow n (relation_of n related)
         → count ≡ count_below n (λ p. eqb (lowest n (relation_of n blocks p)) p) → representatives ≡ list_below n (λ p. lowest n (relation_of n blocks p))
         → refined L (relation_of (states_of t) start) schedule
-        ≡ record { reply = coarsest_reply (Done (record { steps = steps; pairs = pairs; blocks = count })); grid = related; representatives = representatives }
+        ≡ record { reply = coarsest_reply (Ok (record { steps = steps; pairs = pairs; blocks = count })); grid = related; representatives = representatives }
     unfolding refined coarsest_reply
     table-refined {representatives = representatives} a b c e =
         rw (
@@ -168,7 +168,7 @@ module _ (s start schedule grid representatives : List ℕ) where
   unfolding coarsest_rules
   unready e = first_part _ _ e
 
-  pub refusing : {r : Refusal} → broken (coarsest_rules s start grid representatives) ≡ First r → call ≡ record { reply = coarsest_reply (Refused r); grid = grid; representatives = representatives }
+  pub refusing : {r : Refusal} → broken (coarsest_rules s start grid representatives) ≡ First r → call ≡ record { reply = coarsest_reply (Err r); grid = grid; representatives = representatives }
   unfolding coarsest_call coarsest_reply
   refusing e = refuses _ _ _ e
 

@@ -1,24 +1,23 @@
 -- The call coarsest: its reply and its two buffers (document 01, "Turns" and the table of refusals), and demand 3's clauses about them.
-use Rattle.std.specs.Prelude.{ℕ, ◌*◌, ◌-◌, ◌≤◌, ◌<◌, ◌≡◌, not, ◌&&◌, List, [], ◌∷◌, ◌++◌, T, eqb, length, get_or}
+use Rattle.std.specs.Prelude.{ℕ, ◌*◌, ◌-◌, ◌≤◌, ◌<◌, ◌≡◌, not, ◌&&◌, List, [], ◌∷◌, ◌++◌, T, eqb, length, get_or, Ok, Err}
 use Rattle.lts.specs.Bounded.{restrict}
 use Rattle.lts.specs.System.{Rel, Lts}
 use Rattle.lts.specs.Refinement.{block, pair_count, block_count, representatives as representatives_of, coarsest}
 use Rattle.lts.specs.Demand.{IsCoarsest}
 use Rattle.lts.specs.declared.Refusal.{Refusal}
 use Rattle.lts.specs.declared.Refusal.TheVariants.{Buffer}
-use Rattle.lts.specs.Rule.{Rule, ◌otherwise◌, Nothing, First, broken, checked, Reply, refused, given}
+use Rattle.lts.specs.Rule.{Rule, ◌otherwise◌, Nothing, First, broken, checked, Reply, refused, given, Answer}
 use Rattle.encoding.specs.Records.{header_of}
 use Rattle.encoding.specs.Denotation.{lts_of}
 use Rattle.rows.specs.Rows.{row_words}
 use Rattle.relation.specs.Matrix.{relation_of, matrix_of, Matrix}
 use Rattle.inputs.specs.Inputs.{input_rules}
-use Rattle.coarsest.specs.declared.Answer.{Answer}
-use Rattle.coarsest.specs.declared.Answer.TheVariants.{Done, Refused}
+use Rattle.coarsest.specs.declared.Counts.{Counts}
 
 -- the reply of each answer: the turns made, the kept pairs and the blocks
-unfoldable pub coarsest_reply : Answer → Reply
-coarsest_reply (Done c) = given (c.steps ∷ c.pairs ∷ c.blocks ∷ [])
-coarsest_reply (Refused r) = refused r
+unfoldable pub coarsest_reply : Answer Counts → Reply
+coarsest_reply (Ok c) = given (c.steps ∷ c.pairs ∷ c.blocks ∷ [])
+coarsest_reply (Err r) = refused r
 
 -- the reply, and the two lent buffers afterwards
 pub record CoarsestOutcome : Type 0 where

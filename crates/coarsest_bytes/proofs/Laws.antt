@@ -3,7 +3,7 @@ use Prim.Native.Nat.{ℕ, ◌*◌, ◌-◌, ◌/◌, ◌<◌, ◌≤◌}
 use native.Mathlib.Nat.{le_refl, le_trans, mul-le-mul}
 use native.Mathlib.Omega.{arith}
 use mathlib.Core.Path.{◌≡◌, refl, sym, ap, subst, ◌∙◌}
-use mathlib.Core.Logic.{⊎_elim}
+use mathlib.Core.Logic.{◌⊎◌, ⊎_elim}
 use mathlib.Core.Bool.{◌&&◌}
 use mathlib.Core.List.{List, [], ◌∷◌, head-eq_of_cons-eq}
 use lib.Dec.{T, eqb, eqb→eq}
@@ -13,7 +13,7 @@ use Rattle.lts.specs.Bounded.{count_below}
 use Rattle.lts.specs.Refinement.{pair_count, block_count, is_representative, representatives as representatives_of, coarsest}
 use Rattle.lts.specs.declared.Refusal.{Refusal}
 use Rattle.lts.specs.declared.Refusal.TheVariants.{Buffer}
-use Rattle.lts.specs.Rule.{Rule, Nothing, broken, Reply}
+use Rattle.lts.specs.Rule.{Rule, Nothing, broken, Reply, Answer}
 use Rattle.lts.proofs.Bounded.{and-iff}
 use Rattle.lts.proofs.Count.{count_most}
 use Rattle.lts.proofs.Run.{pair-count-most}
@@ -32,13 +32,12 @@ use Rattle.carry.specs.Bytes.{words_of, state_numbers}
 use Rattle.carry.proofs.Laws.{stored-all, numbers-front, numbers-take}
 use Rattle.carry.proofs.Bytes.{same_length}
 use Rattle.coarsest.specs.declared.Counts.{Counts}
-use Rattle.coarsest.specs.declared.Answer.{Answer}
-use Rattle.coarsest.specs.declared.Answer.TheVariants.{Done, Refused}
 use Rattle.coarsest.specs.Call.{CoarsestOutcome, coarsest_reply, coarsest_rules, refined, coarsest_call, grid_relation, CoarsestPromise}
 use Rattle.coarsest.proofs.Promise.{promised}
 use Rattle.coarsest_bytes.specs.Call.{carried_back}
 use Rattle.coarsest_bytes.specs.Carried.{coarsest_on_words, Small}
 use Rattle.lts.proofs.Schedule.{coarsest-same}
+use Rattle.std.specs.Prelude.{Ok, Err}
 
 -- ## What is known where every rule is kept
 module _ (s start words numbers : List ℕ) (ok : broken (coarsest_rules s start words numbers) ≡ Nothing) where
@@ -102,20 +101,20 @@ module _ (s start schedule grid representatives : List ℕ) where
   abbrev on_words : List ℕ → CoarsestOutcome
   on_words es = coarsest_on_words s start es grid representatives
 
-  module _ {words₀ numbers₀ words numbers : List ℕ} (a : Answer) (w : words₀ ≡ words_of grid) (m : numbers₀ ≡ state_numbers representatives)
+  module _ {words₀ numbers₀ words numbers : List ℕ} (a : Answer Counts) (w : words₀ ≡ words_of grid) (m : numbers₀ ≡ state_numbers representatives)
       (is : coarsest_call s start schedule words₀ numbers₀ ≡ record { reply = coarsest_reply a; grid = words; representatives = numbers }) where
     on : coarsest_call s start schedule (words_of grid) (state_numbers representatives) ≡ record { reply = coarsest_reply a; grid = words; representatives = numbers }
     on = rw (w, m) at is
 
-    pub back-refused : {r : Refusal} → a ≡ Refused r → on_words schedule ≡ record { reply = coarsest_reply (Refused r); grid = grid; representatives = representatives }
+    pub back-refused : {r : Refusal} → a ≡ Err r → on_words schedule ≡ record { reply = coarsest_reply (Err r); grid = grid; representatives = representatives }
     unfolding coarsest_on_words coarsest_call refined coarsest_reply
     back-refused {r} e = ⊎_elim
-        (λ k. absurd (numbered r (sym (ap (λ (o : CoarsestOutcome). o.reply.refusal) (when-kept rules _ _ on k)) ∙ ap (λ (x : Answer). (coarsest_reply x).refusal) e)))
+        (λ k. absurd (numbered r (sym (ap (λ (o : CoarsestOutcome). o.reply.refusal) (when-kept rules _ _ on k)) ∙ ap (λ (x : Answer Counts). (coarsest_reply x).refusal) e)))
         (λ q. refuses rules _ _ q.1 ∙ (rw (← ap (λ (o : CoarsestOutcome). o.reply) (when-broken rules _ _ on q.1), e)))
         (finding rules)
 
-    pub back_done : {c : Counts} {g r : List ℕ} → a ≡ Done c → g ≡ stored 8 words grid → r ≡ stored 2 numbers representatives
-        → on_words schedule ≡ record { reply = coarsest_reply (Done c); grid = g; representatives = r }
+    pub back_done : {c : Counts} {g r : List ℕ} → a ≡ Ok c → g ≡ stored 8 words grid → r ≡ stored 2 numbers representatives
+        → on_words schedule ≡ record { reply = coarsest_reply (Ok c); grid = g; representatives = r }
     unfolding coarsest_on_words coarsest_call carried_back refined representatives_of lts_of coarsest_reply
     back_done e gs rs = ⊎_elim
         (λ k.
@@ -125,7 +124,7 @@ module _ (s start schedule grid representatives : List ℕ) where
         let x = stored-all 8 words grid (rw l (grid-long s start grid representatives k)) in
         let y = stored-all 2 numbers representatives (rw h (representatives-long s start grid representatives k)) in
         passes rules _ _ k ∙ ap carried_back (sym f) ∙ (rw (e, gs, x, rs, y)))
-        (λ q. absurd (numbered q.0 (ap (λ (x : Answer). (coarsest_reply x).refusal) (sym e) ∙ ap (λ (o : CoarsestOutcome). o.reply.refusal) (when-broken rules _ _ on q.1))))
+        (λ q. absurd (numbered q.0 (ap (λ (x : Answer Counts). (coarsest_reply x).refusal) (sym e) ∙ ap (λ (o : CoarsestOutcome). o.reply.refusal) (when-broken rules _ _ on q.1))))
         (finding rules)
 
   -- numbers of the schedule that no run uses change nothing
@@ -136,31 +135,31 @@ module _ (s start schedule grid representatives : List ℕ) where
       (λ q. refuses rules _ _ q.1 ∙ sym (refuses rules _ _ q.1))
       (finding rules)
 
-  pub front-is : {es : List ℕ} → es ≡ take 65280 schedule → on_words es ≡ on_words schedule
-  front-is e = rw e (cut-same 256 65280 (λ o. (bounds s start _ _ o).states) (le_refl 65280))
-
--- a schedule's first 512 bytes are enough for 16 states
+-- a schedule's first 130560 bytes are enough, and its first 512 for 16 states
 module _ (s start bytes grid representatives : List ℕ) where
   abbrev on_bytes : List ℕ → CoarsestOutcome
   on_bytes b = coarsest_on_words s start (list_of b) grid representatives
 
-  front-list : 512 < length bytes → list_of (take 512 bytes) ≡ take 256 (list_of bytes)
+  front-list : (most : ℕ) → 2 * most ≤ length bytes → list_of (take (2 * most) bytes) ≡ take most (list_of bytes)
   unfolding list_of
-  front-list h =
-      let l : length (take 512 bytes) ≡ 512 = length-take-le 512 bytes (omega arith) in
-      rw l (numbers-front 2 256 bytes (omega arith)) ∙ sym (numbers-take 2 256 (length bytes / 2) bytes (omega arith))
+  front-list most h =
+      let l : length (take (2 * most) bytes) ≡ 2 * most = length-take-le (2 * most) bytes h in
+      let half : 2 * most / 2 ≡ most = omega arith in
+      rw (l, half) (numbers-front 2 most bytes h) ∙ sym (numbers-take 2 most (length bytes / 2) bytes (omega (arith, h)))
 
-  pub used-same : (k : ℕ) → k ≤ length bytes → (k < length bytes → (k ≡ 512) × ((header_of s).states ≤ 16)) → on_bytes (take k bytes) ≡ on_bytes bytes
+  pub used-same : (k : ℕ) → k ≤ length bytes → (k < length bytes → (k ≡ 130560) ⊎ ((k ≡ 512) × ((header_of s).states ≤ 16))) → on_bytes (take k bytes) ≡ on_bytes bytes
   used-same k h w = ⊎_elim
       (λ (l : k < length bytes).
-      let e = (w l).0 in
-      rw (e, front-list (omega (arith, l, e))) (cut-same s start (list_of bytes) grid representatives 16 256 (λ _. (w l).1) (omega arith)))
+      ⊎_elim
+      (λ e. rw (e, front-list 65280 (omega (arith, l, e))) (cut-same s start (list_of bytes) grid representatives 256 65280 (λ o. (bounds s start _ _ o).states) (le_refl 65280)))
+      (λ few. rw (few.0, front-list 256 (omega (arith, l, few.0))) (cut-same s start (list_of bytes) grid representatives 16 256 (λ _. few.1) (omega arith)))
+      (w l))
       (λ (g : length bytes ≤ k). rw (take_all k bytes g) refl)
       (lt-or-ge k (length bytes))
 
 -- ## How large the counts are
-pub small : {s start schedule grid₀ representatives₀ grid representatives : List ℕ} {a : Answer} {c : Counts}
-    → CoarsestPromise s start schedule grid₀ representatives₀ (coarsest_reply a) grid representatives → a ≡ Done c → Small c
+pub small : {s start schedule grid₀ representatives₀ grid representatives : List ℕ} {a : Answer Counts} {c : Counts}
+    → CoarsestPromise s start schedule grid₀ representatives₀ (coarsest_reply a) grid representatives → a ≡ Ok c → Small c
 unfolding coarsest_reply block_count
 small {s} {start} {schedule} {grid₀} {representatives₀} {grid} {representatives} {a} {c} p done = ⊎_elim
     (λ k.

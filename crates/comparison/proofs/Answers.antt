@@ -5,27 +5,26 @@ use mathlib.Core.List.{List}
 use Rattle.lts.specs.System.{Rel, Lts}
 use Rattle.lts.specs.Union.{comparison, simulated}
 use Rattle.lts.specs.declared.Refusal.{Refusal}
-use Rattle.lts.specs.Rule.{refused}
+use Rattle.lts.specs.Rule.{refused, Answer}
 use Rattle.lts.proofs.Rule.{refuses, passes}
 use Rattle.encoding.specs.declared.Header.{Header}
 use Rattle.encoding.specs.Records.{header_of}
 use Rattle.encoding.specs.Denotation.{lts_of}
 use Rattle.transitions.specs.Table.{table_lts, Holds}
-use Rattle.inputs.specs.declared.Both.TheVariants.{Readable, Refused as Unreadable}
-use Rattle.inputs.specs.Both.{joined_lts, both_rules, read_both}
+use Rattle.inputs.specs.Both.{joined_lts, both_rules, read_both, joint_of}
 use Rattle.inputs.proofs.Joined.{both-broken, both_read}
-use Rattle.comparison.specs.declared.Compared.{Compared}
-use Rattle.comparison.specs.declared.Compared.TheVariants.{Refused}
 use Rattle.comparison.specs.Run.{run_reply, pair_reply}
 use Rattle.comparison.specs.Call.{compare_reply, compare_call}
+use Rattle.std.specs.Prelude.{Err}
+use Rattle.comparison.specs.declared.Comparison.{Comparison}
 
 module _ (start : Lts → Rel) (first second : List ℕ) where
-  pub unread : {r : Refusal} → read_both first second ≡ Unreadable r → compare_call start first second ≡ compare_reply (Refused r)
+  pub unread : {r : Refusal} → read_both first second ≡ Err r → compare_call start first second ≡ compare_reply (Err r)
   unfolding compare_call compare_reply
   unread e = refuses (both_rules first second) refused _ (both-broken first second e)
 
   -- of a table of the joined flow
-  pub compared : {h g : Header} {m : ℕ} {t : List ℕ} (r : Compared) → read_both first second ≡ Readable h g m → Holds (joined_lts first second) t
+  pub compared : {h g : Header} {m : ℕ} {t : List ℕ} (r : Answer Comparison) → read_both first second ≡ joint_of h g m → Holds (joined_lts first second) t
       → pair_reply start (table_lts t) h.states ≡ compare_reply r → compare_call start first second ≡ compare_reply r
   unfolding compare_call simulated comparison pair_reply run_reply lts_of
   compared {h} {g} {m} {t} r e k f =

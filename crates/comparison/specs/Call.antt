@@ -1,24 +1,22 @@
 -- The call compare and its ready form: the reply (document 01, "Hand play and comparison" and the table of refusals; document 02, L2 and L6),
 -- and what is promised of it.
-use Rattle.std.specs.Prelude.{ℕ, ◌*◌, ◌-◌, ◌≤◌, ◌≡◌, cond, List, [], ◌∷◌, T}
+use Rattle.std.specs.Prelude.{ℕ, ◌*◌, ◌-◌, ◌≤◌, ◌≡◌, cond, List, [], ◌∷◌, T, Ok, Err}
 use Rattle.lts.specs.System.{Rel, Lts, is_simulation, within, termination_preorder}
 use Rattle.lts.specs.Refinement.{Run, coarsest}
 use Rattle.lts.specs.Union.{comparison, simulated}
 use Rattle.lts.specs.Ready.{ready_preorder, ReadySimulation}
 use Rattle.lts.specs.Labels.{joined_labels, JoinedByLabel}
 use Rattle.lts.specs.declared.Refusal.{Refusal}
-use Rattle.lts.specs.Rule.{Nothing, First, broken, checked, Reply, refused, given, Decides}
+use Rattle.lts.specs.Rule.{Nothing, First, broken, checked, Reply, refused, given, Decides, Answer}
 use Rattle.encoding.specs.Labels.{labels_of}
 use Rattle.encoding.specs.Denotation.{lts_of}
 use Rattle.inputs.specs.Both.{matched_lts, joined_lts, both_rules}
-use Rattle.comparison.specs.declared.Compared.{Compared}
-use Rattle.comparison.specs.declared.Compared.TheVariants.{Yes, No, Refused}
+use Rattle.comparison.specs.declared.Comparison.{Comparison}
 
 -- the reply of each answer: yes or no, and the turns
-unfoldable pub compare_reply : Compared → Reply
-compare_reply (Yes steps) = given (1 ∷ steps ∷ [])
-compare_reply (No steps) = given (0 ∷ steps ∷ [])
-compare_reply (Refused r) = refused r
+unfoldable pub compare_reply : Answer Comparison → Reply
+compare_reply (Ok c) = given (cond c.related 1 0 ∷ c.steps ∷ [])
+compare_reply (Err r) = refused r
 
 -- actions are matched by name; yes exactly if state 0 of the first is kept with state 0 of the second, and the turns. The run begins with a
 -- start of the joined flow: the end start, or in the ready form the ready start

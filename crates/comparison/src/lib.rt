@@ -15,22 +15,11 @@ ghost use Rattle.refinement.specs.Engine.{Start};
 ghost use Rattle.comparison.specs.Run.{pair_reply};
 ghost use Rattle.comparison.specs.Call.{compare_reply, compare_call, Relates, ComparePromise, CompareReadyPromise};
 
-// What compare answers: yes or no, with the steps made.
+// Whether the second system simulates the first, and the steps made.
 #[derive(Clone, Copy)]
-pub enum Compared {
-    Yes(usize),
-    No(usize),
-    Refused(lts::Refusal),
-}
-
-// Yes or no, with the steps.
-fn verdict(related: bool, steps: usize) -> Compared
-    ensures { given (cond related 1 0 ∷ steps ∷ []) ≡ compare_reply result }
-{
-    if related {
-        return Compared::Yes(steps);
-    }
-    Compared::No(steps)
+pub struct Comparison {
+    pub related: bool,
+    pub steps: usize,
 }
 
 // The run on a table from a start, with an empty schedule: the relation at its end, and its steps. The blocks are the caller's.
@@ -60,44 +49,34 @@ fn compare_in(
     start: &mut [u64],
     related: &mut [u64],
     blocks: &mut [u64],
-) -> Compared
+) -> Comparison
     requires formed { Formed table.now × (q < states_of table.now) }
     requires fact { let words = states_of table.now * row_words (states_of table.now) in
         (length start.old ≡ words) × (length related.old ≡ words) × (length blocks.old ≡ words) }
-    ensures { pair_reply (written_start ready) (table_lts table.now) q ≡ compare_reply result }
+    ensures { pair_reply (written_start ready) (table_lts table.now) q ≡ compare_reply (Ok result) }
 {
     starts::write_start(table, ready, start);
     let steps = relate(table, start, related, blocks);
     let n = transitions::states(table);
-    verdict(relation::relates(related, n, 0, q), steps)
+    Comparison {
+        related: relation::relates(related, n, 0, q),
+        steps,
+    }
 }
 
-// The same with room for the matrices of every table.
-fn compare_large(table: &transitions::Table, ready: bool, q: usize, size: usize) -> Compared
-    requires { let n = states_of table.now in Formed table.now × (q < n) × (size ≡ n * row_words n) × (size ≤ 1024) }
-    ensures { pair_reply (written_start ready) (table_lts table.now) q ≡ compare_reply result }
+// The same with room for matrices of at most WORDS words: small arrays are cleared sooner.
+fn compare_sized<const WORDS: usize>(
+    table: &transitions::Table,
+    ready: bool,
+    q: usize,
+    size: usize,
+) -> Comparison
+    requires { let n = states_of table.now in Formed table.now × (q < n) × (size ≡ n * row_words n) × (size ≤ WORDS) × (WORDS ≤ 1024) }
+    ensures { pair_reply (written_start ready) (table_lts table.now) q ≡ compare_reply (Ok result) }
 {
-    let mut start = [0u64; 1024];
-    let mut related = [0u64; 1024];
-    let mut blocks = [0u64; 1024];
-    compare_in(
-        table,
-        ready,
-        q,
-        &mut start[..size],
-        &mut related[..size],
-        &mut blocks[..size],
-    )
-}
-
-// The same with room for the matrices of 64 states: small arrays are cleared sooner.
-fn compare_small(table: &transitions::Table, ready: bool, q: usize, size: usize) -> Compared
-    requires { let n = states_of table.now in Formed table.now × (q < n) × (size ≡ n * row_words n) × (size ≤ 64) }
-    ensures { pair_reply (written_start ready) (table_lts table.now) q ≡ compare_reply result }
-{
-    let mut start = [0u64; 64];
-    let mut related = [0u64; 64];
-    let mut blocks = [0u64; 64];
+    let mut start = [0u64; WORDS];
+    let mut related = [0u64; WORDS];
+    let mut blocks = [0u64; WORDS];
     compare_in(
         table,
         ready,
@@ -109,35 +88,31 @@ fn compare_small(table: &transitions::Table, ready: bool, q: usize, size: usize)
 }
 
 // The same, whatever the table's size.
-fn compare_started(table: &transitions::Table, ready: bool, q: usize) -> Compared
+fn compare_started(table: &transitions::Table, ready: bool, q: usize) -> Comparison
     requires { Formed table.now × (q < states_of table.now) }
-    ensures { pair_reply (written_start ready) (table_lts table.now) q ≡ compare_reply result }
+    ensures { pair_reply (written_start ready) (table_lts table.now) q ≡ compare_reply (Ok result) }
 {
     let size = relation::matrix_words(transitions::states(table));
     if size <= 64 {
-        return compare_small(table, ready, q, size);
+        return compare_sized::<64>(table, ready, q, size);
     }
-    compare_large(table, ready, q, size)
+    compare_sized::<1024>(table, ready, q, size)
 }
 
 // The same of two encodings' disjoint union, actions matched by name, for the two states 0.
-fn compare_by(first: &[u8], second: &[u8], ready: bool) -> Compared
+fn compare_by(first: &[u8], second: &[u8], ready: bool) -> Result<Comparison, lts::Refusal>
     ensures { compare_call (written_start ready) first.now second.now ≡ compare_reply result }
 {
     let mut to = [0u16; 65];
-    let reading = inputs::read_both(first, second, &mut to);
-    match reading {
-        inputs::Both::Refused(r) => Compared::Refused(r),
-        inputs::Both::Readable(h, g, m) => {
-            let mut table = transitions::empty();
-            transitions::load_both(first, h, second, g, &to, m, &mut table);
-            compare_started(&table, ready, h.states)
-        }
-    }
+    let both = inputs::read_both(first, second, &mut to)?;
+    let h = both.first;
+    let mut table = transitions::empty();
+    transitions::load_both(first, h, second, both.second, &to, both.labels, &mut table);
+    Ok(compare_started(&table, ready, h.states))
 }
 
 // Compare: whether state 0 of the second encoding's system simulates state 0 of the first's, with the steps made.
-pub fn compare(first: &[u8], second: &[u8]) -> Compared
+pub fn compare(first: &[u8], second: &[u8]) -> Result<Comparison, lts::Refusal>
     ensures second_value { compare_call termination_preorder first.now second.now ≡ compare_reply result }
     ensures compare_promise { ComparePromise termination_preorder Relates first.now second.now (compare_reply result) }
 {
@@ -145,7 +120,7 @@ pub fn compare(first: &[u8], second: &[u8]) -> Compared
 }
 
 // Compare's ready form (document 02, L6): the same where only states with the same set of actions are related.
-pub fn compare_ready(first: &[u8], second: &[u8]) -> Compared
+pub fn compare_ready(first: &[u8], second: &[u8]) -> Result<Comparison, lts::Refusal>
     ensures second_value { compare_call ready_preorder first.now second.now ≡ compare_reply result }
     ensures compare_ready_promise { CompareReadyPromise first.now second.now (compare_reply result) }
 {

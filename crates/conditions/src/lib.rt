@@ -28,14 +28,9 @@ pub fn first_unanswered(table: &transitions::Table, grid: &[u64], p: usize, q: u
 {
     let first = transitions::offset(table, p);
     let end = transitions::offset(table, p + 1);
-    let mut i = first;
-    while i < end {
-        if !has_answer(table, grid, q, i) {
-            return i;
-        }
-        i += 1;
-    }
-    end
+    (first..end)
+        .find(|&i| !has_answer(table, grid, q, i))
+        .unwrap_or(end)
 }
 
 // Condition 1, the starting condition: the pair (p, q) is in the start.
@@ -105,13 +100,5 @@ pub fn claim_passes(table: &transitions::Table, start: &[u64], claim: &[u64]) ->
         let R = relation_of (states_of t) claim.now in
         result ≡ within (table_lts t) R (both_conditions (table_lts t) (relation_of (states_of t) start.now) R) }
 {
-    let n = transitions::states(table);
-    let mut p = 0;
-    while p < n {
-        if !row_passes(table, start, claim, p) {
-            return false;
-        }
-        p += 1;
-    }
-    true
+    (0..transitions::states(table)).all(|p| row_passes(table, start, claim, p))
 }

@@ -7,7 +7,6 @@ use native.Mathlib.Omega.{arith}
 use lib.ListN.{length}
 use Rattle.lts.specs.Rule.{Nothing, broken}
 use Rattle.encoding.specs.declared.Header.{Header}
-use Rattle.encoding.specs.declared.Reading.TheVariants.{Readable}
 use Rattle.encoding.specs.Records.{IsBytes, header_of, header_bytes, of_kind, system_records}
 use Rattle.encoding.specs.Labels.{labels_of, records_of}
 use Rattle.encoding.specs.Encoding.{sheet_rules, read_encoding}
@@ -18,6 +17,7 @@ use Rattle.encoding.proofs.Parts.{parts-own}
 use Rattle.encoding.proofs.Twins.{Twins, twin-lts, twin-labels, twin-broken}
 use Rattle.conversion.specs.Conversion.{in_kind, named_in_decimal, Converted}
 use Rattle.conversion.proofs.InKind.{kind-header, kind-records, kind-own, named-twins, plain-twins}
+use Rattle.std.specs.Prelude.{Ok}
 
 -- a sheet that is read keeps rules 1 and 2
 pub kept-sized : (s : List ℕ) → broken (sheet_rules s) ≡ Nothing → Sized s (header_of s)
@@ -32,7 +32,7 @@ module _ (named : Bool) (s : List ℕ) (ok : broken (sheet_rules s) ≡ Nothing)
   kind-head = kind-header named s long small
 
   -- read, where its rules are kept
-  reads-kind : broken (sheet_rules (in_kind named s)) ≡ Nothing → read_encoding (in_kind named s) ≡ Readable (of_kind named (header_of s))
+  reads-kind : broken (sheet_rules (in_kind named s)) ≡ Nothing → read_encoding (in_kind named s) ≡ Ok (of_kind named (header_of s))
   reads-kind e = sym (sheet-passed (in_kind named s) (sym kind-head) e)
 
   records-kind : system_records (in_kind named s) (header_of (in_kind named s)) ≡ system_records s (header_of s)

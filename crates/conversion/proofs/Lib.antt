@@ -1,4 +1,3 @@
-pub mod Copies
 pub mod InKind
 pub mod Written
 pub mod Converted

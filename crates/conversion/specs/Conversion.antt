@@ -1,12 +1,11 @@
 -- The calls to named and to plain (document 02, L3): what each replies and leaves in its buffer, and what is promised of it.
-use Rattle.std.specs.Prelude.{ℕ, suc, ◌≤◌, ◌≡◌, ◌↔◌, Bool, true, false, List, [], ◌∷◌, ◌++◌, eqb, length}
+use Rattle.std.specs.Prelude.{ℕ, suc, ◌≤◌, ◌≡◌, ◌↔◌, Bool, true, false, List, [], ◌∷◌, ◌++◌, eqb, length, Ok}
 use Rattle.lts.specs.Bounded.{all_below}
 use Rattle.lts.specs.Labels.{same_label}
 use Rattle.lts.specs.declared.Refusal.{Refusal}
 use Rattle.lts.specs.declared.Refusal.TheVariants.{NotDecimal, Buffer}
 use Rattle.lts.specs.Rule.{Rule, ◌otherwise◌, Nothing, First, broken, checked, Reply, refused, given}
 use Rattle.encoding.specs.declared.Header.{Header}
-use Rattle.encoding.specs.declared.Reading.TheVariants.{Readable}
 use Rattle.encoding.specs.Records.{header_of, header_bytes, of_kind, encoding_length, system_records}
 use Rattle.encoding.specs.Labels.{decimal_label, label_in, labels_of, records_of}
 use Rattle.encoding.specs.Encoding.{sheet_rules, read_encoding}
@@ -51,7 +50,7 @@ to_plain_call s out = conversion false (to_plain_rules s out) s out
 -- out is the sheet s in the wanted kind
 pub record Converted (named : Bool) (s out : List ℕ) : Type 0 where
   -- it is read, with the same counts, in the wanted kind
-  pub reads : read_encoding out ≡ Readable (of_kind named (header_of s))
+  pub reads : read_encoding out ≡ Ok (of_kind named (header_of s))
   -- it has the same names, and denotes the same flow
   pub labels : labels_of out ≡ labels_of s
   pub same : lts_of out ≡ lts_of s

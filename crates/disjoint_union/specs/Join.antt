@@ -1,11 +1,11 @@
 -- The call join: what it replies and leaves in its buffer, and what is promised of it (document 02, L2: actions matched by name).
-use Rattle.std.specs.Prelude.{ℕ, ◌≤◌, ◌≡◌, cond, ◌||◌, List, [], ◌∷◌, ◌++◌, leb, length, take, drop}
+use Rattle.std.specs.Prelude.{ℕ, ◌≤◌, ◌≡◌, cond, ◌||◌, List, [], ◌∷◌, ◌++◌, leb, length, take, drop, Ok, Err}
 use Rattle.lts.specs.System.{Rel, Lts}
 use Rattle.lts.specs.Refinement.{coarsest}
 use Rattle.lts.specs.Labels.{joined_labels, JoinedByLabel}
 use Rattle.lts.specs.declared.Refusal.{Refusal}
 use Rattle.lts.specs.declared.Refusal.TheVariants.{Buffer}
-use Rattle.lts.specs.Rule.{Rule, ◌otherwise◌, Nothing, First, broken, checked, Reply, refused, given}
+use Rattle.lts.specs.Rule.{Rule, ◌otherwise◌, Nothing, First, broken, checked, Reply, refused, given, Answer}
 use Rattle.encoding.specs.Records.{header_of}
 use Rattle.encoding.specs.Labels.{Labelling, labels_of}
 use Rattle.encoding.specs.Denotation.{lts_of}
@@ -13,13 +13,11 @@ use Rattle.inputs.specs.Both.{joined_lts, both_rules}
 use Rattle.normal_form.specs.Normal.{normal}
 use Rattle.normal_form.specs.NormalForm.{NormalForm}
 use Rattle.comparison.specs.Call.{compare_call}
-use Rattle.disjoint_union.specs.declared.Joined.{Joined}
-use Rattle.disjoint_union.specs.declared.Joined.TheVariants.{Written, Refused}
 
 -- the reply of each answer: the length written
-unfoldable pub join_reply : Joined → Reply
-join_reply (Written n) = given (n ∷ [])
-join_reply (Refused r) = refused r
+unfoldable pub join_reply : Answer ℕ → Reply
+join_reply (Ok n) = given (n ∷ [])
+join_reply (Err r) = refused r
 
 -- the reply, and the lent buffer afterwards
 pub record JoinOutcome : Type 0 where

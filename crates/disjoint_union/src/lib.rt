@@ -7,13 +7,6 @@ ghost use Rattle.labels.specs.Maps.{Matches};
 ghost use Rattle.inputs.specs.Both.{Joinable};
 ghost use Rattle.disjoint_union.specs.Join.{join_reply, joined_labelling, join_call, JoinPromise};
 
-// What join answers: the length of the sheet that it wrote.
-#[derive(Clone, Copy)]
-pub enum Joined {
-    Written(usize),
-    Refused(lts::Refusal),
-}
-
 // Writes the label records of the joined flow at the start of `labels`; their length. A plain sheet has none.
 fn put_records(
     first: &[u8],
@@ -38,26 +31,24 @@ fn put_records(
 
 // Join: writes the normal form of the two sheets' joined flow at the start of the buffer: plain where both are, otherwise named. A buffer that is
 // shorter is refused, and what is past the written end stays.
-pub fn join(first: &[u8], second: &[u8], out: &mut [u8]) -> Joined
+pub fn join(first: &[u8], second: &[u8], out: &mut [u8]) -> Result<usize, lts::Refusal>
     ensures out_value { join_call first.now second.now out.old ≡ record { reply = join_reply result; out = out.new } }
     ensures join_promise { JoinPromise first.now second.now out.old (join_reply result) out.new }
 {
     let mut to = [0u16; 65];
-    let reading = inputs::read_both(first, second, &mut to);
-    match reading {
-        inputs::Both::Refused(r) => Joined::Refused(r),
-        inputs::Both::Readable(h, g, m) => {
-            let mut table = transitions::empty();
-            transitions::load_both(first, h, second, g, &to, m, &mut table);
-            let named = h.named | g.named;
-            let length = normal_form::table_length(&table, named);
-            if out.len() < length {
-                return Joined::Refused(lts::Refusal::Buffer);
-            }
-            let mut labels = [0u8; 1024];
-            let size = put_records(first, h, second, g, &to, m, &mut labels);
-            normal_form::write_table(&table, named, &labels[..size], out);
-            Joined::Written(length)
-        }
+    let both = inputs::read_both(first, second, &mut to)?;
+    let h = both.first;
+    let g = both.second;
+    let m = both.labels;
+    let mut table = transitions::empty();
+    transitions::load_both(first, h, second, g, &to, m, &mut table);
+    let named = h.named | g.named;
+    let length = normal_form::table_length(&table, named);
+    if out.len() < length {
+        return Err(lts::Refusal::Buffer);
     }
+    let mut labels = [0u8; 1024];
+    let size = put_records(first, h, second, g, &to, m, &mut labels);
+    normal_form::write_table(&table, named, &labels[..size], out);
+    Ok(length)
 }

@@ -1,6 +1,6 @@
 -- Laws of chains.
 use Prim.Native.Nat.{ℕ, zero, suc, ◌+◌, ◌-◌, ◌≤◌, ◌<◌}
-use mathlib.Core.Path.{◌≡◌, refl}
+use mathlib.Core.Path.{◌≡◌, refl, ap, ◌∙◌}
 use mathlib.Core.Bool.{and-eq-true_iff}
 use mathlib.Core.List.{List, [], ◌∷◌, map}
 use native.Mathlib.Omega.{arith}
@@ -53,6 +53,16 @@ module _ (s : List ℕ) (h : Header) where
   walk_more zero j l p = absurd (not-suc-le-zero l)
   walk_more (suc fuel) zero l p = absurd (not-suc-le-zero p)
   walk_more (suc fuel) (suc j) l p = rw sub-one
+
+  -- the walk at step i of at most k
+  pub walk_step : (k i j : ℕ) → i < k → 0 < j → walk s h (k - i) j ≡ j ∷ walk s h (k - (i + 1)) (transition_record s h j).next
+  walk_step k i j l p = walk_more (k - i) j (omega arith) p ∙ ap (λ (fuel : ℕ). j ∷ walk s h fuel (transition_record s h j).next) (omega arith)
+
+  pub walk_first : (k j : ℕ) → walk s h (k - 0) j ≡ walk s h k j
+  walk_first k j = ap (λ (fuel : ℕ). walk s h fuel j) (omega arith)
+
+  pub walk_last : (k i j : ℕ) → k ≤ i → walk s h (k - i) j ≡ []
+  walk_last k i j l = ap (λ (fuel : ℕ). walk s h fuel j) (omega arith) ∙ walk_none j
 
 -- ## The records and successors on chains lie in their ranges
 abbrev pub Below : ℕ → List ℕ → Type 0

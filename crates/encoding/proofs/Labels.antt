@@ -2,12 +2,13 @@
 use Prim.Native.Nat.{ℕ, zero, suc, ◌+◌, ◌*◌, ◌-◌, ◌≤◌, ◌<◌}
 use mathlib.Core.Path.{◌≡◌, refl, sym, ap, ◌∙◌}
 use mathlib.Core.Bool.{Bool, true, false, cond, not, ◌&&◌, and-true, and-false}
-use mathlib.Core.List.{List, [], ◌++◌, append-nil}
+use mathlib.Core.List.{List, [], ◌++◌, append-nil, ◌∷◌}
 use mathlib.Core.Logic.{⊎_elim, ◌↔◌}
 use native.Mathlib.Nat.{add-zero}
 use native.Mathlib.Numerals.{add-one}
 use native.Mathlib.Omega.{arith}
 use borrow.Author.Tests.{eqb-true, eqb-false, eq-eqb, ne_eqb}
+use lib.Pointwise.{pointwise}
 use lib.Dec.{T, leb, eqb, leb→le, le→leb, eqb→eq}
 use lib.ListN.{length, get_or, drop, replicate}
 use lib.ListN.{length-replicate, get_or-replicate, get_or-eq_default, get_or-append}
@@ -25,24 +26,7 @@ use Rattle.encoding.specs.Records.{labels_length, label_at, label_record, label_
 use Rattle.encoding.specs.Labels.{visible, follows, label_fits, padded, decimal_label, label_in, labels_in, IsLabel}
 use Rattle.encoding.specs.Checked.{Sized}
 
--- ## Records: copied, written, tested byte by byte
-
--- 16 bytes were copied into 16 zeros
-pub bytes-copied : (f : ℕ → ℕ) (now : List ℕ) (d : ℕ) → now ≡ list_below d f ++ drop d (replicate 16 0) → d ≤ 16 → 16 ≤ d → now ≡ list_below 16 f
-bytes-copied f now d e l g =
-    let at : d ≡ 16 = omega arith in
-    e ∙ rw at (append-nil (list_below 16 f))
-
--- a byte that may not follow the one before it
-pub fits-stop : (x : List ℕ) (d : ℕ) {b : Bool} → d < 15 → b ≡ follows (get_or x d 0) (get_or x (d + 1) 0) → not b ≡ true → false ≡ label_fits x
-unfolding label_fits
-fits-stop x d h e t = sym (ap (λ (b : Bool). visible (get_or x 0 0) && b) (sym (all-stop _ 15 d h e t)) ∙ and-false (visible (get_or x 0 0)))
-
--- every byte may follow the one before it
-pub fits-done : (x : List ℕ) (d : ℕ) {b : Bool} → b ≡ visible (get_or x 0 0) → all_below d (λ i. follows (get_or x i 0) (get_or x (i + 1) 0)) ≡ true → d ≤ 15 → 15 ≤ d
-    → b ≡ label_fits x
-unfolding label_fits
-fits-done x d e all l g = e ∙ sym (rw (← all_done _ 15 d all l g) (and-true (visible (get_or x 0 0))))
+-- ## Records: tested byte by byte
 
 -- labels of 16 bytes are the same if they agree at each place
 pub same_bytes : (y x : List ℕ) → length y ≡ 16 → length x ≡ 16 → all_below 16 (λ d. eqb (get_or y d 0) (get_or x d 0)) ≡ same_label y x
@@ -58,9 +42,13 @@ same_bytes y x hy hx = bool_iff to from
         let e = label-tests.sound y x (true-T (same_label y x) t) in
         all_of 16 _ (λ d h. eq-eqb _ _ (ap (λ (z : List ℕ). get_or z d 0) e))
 
--- a place where they differ
-pub differ-at : (y x : List ℕ) (d : ℕ) → length y ≡ 16 → length x ≡ 16 → d < 16 → (get_or y d 0 ≡ get_or x d 0 → ⊥) → false ≡ same_label y x
-differ-at y x d hy hx l n = all-stop _ 16 d l (sym (ne_eqb _ _ n)) refl ∙ same_bytes y x hy hx
+-- the library's equality of two lists of bytes
+pub same-pointwise : (x y : List ℕ) → pointwise eqb x y ≡ same_label x y
+unfolding same_label
+same-pointwise [] [] = refl
+same-pointwise [] (y ∷ ys) = refl
+same-pointwise (x ∷ xs) [] = refl
+same-pointwise (x ∷ xs) (y ∷ ys) = ap (λ (b : Bool). eqb x y && b) (same-pointwise xs ys)
 
 -- a text written into zeros
 written-zeros : (n : ℕ) (text : List ℕ) → length text ≤ n → written 0 text (replicate n 0) ≡ list_below n (λ d. get_or text d 0)

@@ -12,7 +12,6 @@ use Rattle.lts.specs.Labels.{same_label, Labels}
 use Rattle.lts.proofs.Below.{all-at, true-T}
 use Rattle.lts.proofs.Labels.{numbered-distinct}
 use Rattle.encoding.specs.declared.Header.{Header}
-use Rattle.encoding.specs.declared.Reading.TheVariants.{Readable}
 use Rattle.lts.specs.Transitions.{transitions, transitions_below}
 use Rattle.encoding.specs.Labels.{label_fits, decimal_label, label_in, labels_in, labels_fit}
 use Rattle.encoding.specs.Checked.{Bounds, ReadableAs}
@@ -23,6 +22,7 @@ use Rattle.encoding.proofs.Labels.{plain_label, labels_length_lem, decimal-fits,
 use Rattle.encoding.proofs.Reader.{readable_of}
 use Rattle.encoding.proofs.Denotation.{lts-states, lts-actions, well-formed}
 use Rattle.encoding.proofs.Counting.{all-count}
+use Rattle.std.specs.Prelude.{Ok}
 
 all-is : (s : List ℕ) (h : Header) → ReadableAs s h → transitions (lts_of s) ≡ transitions_below (lts_of s) h.states
 unfolding transitions
@@ -62,7 +62,7 @@ sheet-labels s h g = record {
   once = labels-once s h g.recorded.sized.bounds g.labels;
 }
 
-pub denoted : (s : List ℕ) (h : Header) → read_encoding s ≡ Readable h → Denoted s h
+pub denoted : (s : List ℕ) (h : Header) → read_encoding s ≡ Ok h → Denoted s h
 denoted s h e =
     let g = readable_of e in
     record {

@@ -11,11 +11,11 @@ use Rattle.encoding.specs.declared.Header.{Header}
 use Rattle.lts.specs.declared.Refusal.{Refusal}
 use Rattle.lts.specs.Rule.{Nothing, First, broken}
 use Rattle.lts.proofs.Rule.{pass, done, kept, refuses, passes, finding}
-use Rattle.encoding.specs.declared.Reading.TheVariants.{Readable, Refused}
 use Rattle.encoding.specs.Records.{header_of}
 use Rattle.encoding.specs.Encoding.{in_range, reached, all_reached, none_twice, distinct, headed_rules, sheet_rules, read_encoding}
 use Rattle.encoding.specs.Checked.{Bounds, Recorded, ReadableAs, chains_fit}
 use Rattle.encoding.proofs.Naming.{fit-none-twice, none-twice-distinct}
+use Rattle.std.specs.Prelude.{Ok, Err}
 
 -- rule 2, as facts on the numbers
 pub in-range : (h : Header) → in_range h ≡ true → Bounds h
@@ -24,13 +24,13 @@ in-range h e = let p = simp and-eq-true_iff at e in omega (arith, leb-true)
 
 -- ## What reading answers, by the rules
 module _ (s : List ℕ) where
-  pub sheet-refused : {r : Refusal} → broken (sheet_rules s) ≡ First r → Refused r ≡ read_encoding s
+  pub sheet-refused : {r : Refusal} → broken (sheet_rules s) ≡ First r → Err r ≡ read_encoding s
   unfolding read_encoding
-  sheet-refused e = sym (refuses (sheet_rules s) Refused (Readable (header_of s)) e)
+  sheet-refused e = sym (refuses (sheet_rules s) Err (Ok (header_of s)) e)
 
-  pub sheet-passed : {h : Header} → h ≡ header_of s → broken (sheet_rules s) ≡ Nothing → Readable h ≡ read_encoding s
+  pub sheet-passed : {h : Header} → h ≡ header_of s → broken (sheet_rules s) ≡ Nothing → Ok h ≡ read_encoding s
   unfolding read_encoding
-  sheet-passed q e = ap Readable q ∙ sym (passes (sheet_rules s) Refused (Readable (header_of s)) e)
+  sheet-passed q e = ap Ok q ∙ sym (passes (sheet_rules s) Err (Ok (header_of s)) e)
 
   -- what is left of them after the first k, with the header h that the code has read
   abbrev pub ReadTo : ℕ → Header → Type 0
@@ -41,11 +41,11 @@ module _ (s : List ℕ) where
   headed q = ap (λ (h : Header). broken (headed_rules s h)) (sym q)
 
 -- ## What a caller learns from an answer
-pub sheet-broken : (s : List ℕ) {r : Refusal} → read_encoding s ≡ Refused r → broken (sheet_rules s) ≡ First r
+pub sheet-broken : (s : List ℕ) {r : Refusal} → read_encoding s ≡ Err r → broken (sheet_rules s) ≡ First r
 sheet-broken s {r} e = ⊎_elim (λ p. let f = sheet-passed s refl p in cc)
     (λ q. let f = sheet-refused s q.1 in let z : q.0 ≡ r = cc in q.1 ∙ ap First z) (finding (sheet_rules s))
 
-pub sheet-kept : (s : List ℕ) {h : Header} → read_encoding s ≡ Readable h → (broken (sheet_rules s) ≡ Nothing) × (h ≡ header_of s)
+pub sheet-kept : (s : List ℕ) {h : Header} → read_encoding s ≡ Ok h → (broken (sheet_rules s) ≡ Nothing) × (h ≡ header_of s)
 sheet-kept s {h} e =
     ⊎_elim (λ p. let f = sheet-passed s refl p in (p, cc)) (λ q. let f = sheet-refused s q.1 in (cc, cc)) (finding (sheet_rules s))
 
@@ -73,7 +73,7 @@ kept-readable s e =
     let recorded : Recorded s (header_of s) = record { sized = record { bounds = in-range _ e₂.0; long = eqb-true _ _ e₃.0 }; states = e₅.0; transitions = e₆.0 } in
     record { recorded = recorded; header = refl; labels = e₄.0; chains = chains-kept s (header_of s) recorded e₇.0 e₈.0; successors = e₉.0 }
 
-pub readable_of : {s : List ℕ} {h : Header} → read_encoding s ≡ Readable h → ReadableAs s h
+pub readable_of : {s : List ℕ} {h : Header} → read_encoding s ≡ Ok h → ReadableAs s h
 readable_of {s} e = let k = sheet-kept s e in rw k.1 (kept-readable s k.0)
 
 -- ## And the other way round
@@ -97,5 +97,5 @@ readable-kept {s} {h} g =
     let e₈ = pass _ _ _ e₇ (sym c.1) refl in
     done (pass _ _ _ e₈ (sym g.successors) refl)
 
-pub reads : (s : List ℕ) (h : Header) → ReadableAs s h → read_encoding s ≡ Readable h
+pub reads : (s : List ℕ) (h : Header) → ReadableAs s h → read_encoding s ≡ Ok h
 reads s h g = sym (sheet-passed s g.header (readable-kept g))

@@ -1,14 +1,12 @@
 -- The rules that make an encoding readable, and what reading it answers (document 01, "The sheet" and the table of refusals;
 -- document 02, L1 and L2).
-use Rattle.std.specs.Prelude.{ℕ, zero, suc, ◌+◌, ◌*◌, Bool, true, false, cond, not, ◌&&◌, ◌||◌, List, [], ◌∷◌, ◌++◌, map, length, ltb, leb, eqb}
+use Rattle.std.specs.Prelude.{ℕ, zero, suc, ◌+◌, ◌*◌, Bool, true, false, cond, not, ◌&&◌, ◌||◌, List, [], ◌∷◌, ◌++◌, map, length, ltb, leb, eqb, Ok, Err}
 use Rattle.lts.specs.Bounded.{all_below, concat_below, list_below, lowest}
-use Rattle.lts.specs.Rule.{Rule, ◌otherwise◌, checked}
+use Rattle.lts.specs.Rule.{Rule, ◌otherwise◌, checked, Answer}
 use Rattle.lts.specs.declared.Refusal.TheVariants.{Length, Range, Label, StateRecord as BadState, TransitionRecord as BadTransition, Unreached, ReachedTwice, Repeated}
 use Rattle.encoding.specs.declared.Header.{Header}
 use Rattle.encoding.specs.declared.StateRecord.{StateRecord}
 use Rattle.encoding.specs.declared.TransitionRecord.{TransitionRecord}
-use Rattle.encoding.specs.declared.Reading.{Reading}
-use Rattle.encoding.specs.declared.Reading.TheVariants.{Readable, Refused}
 use Rattle.encoding.specs.Records.{header_of, encoding_length, state_record, transition_record}
 use Rattle.encoding.specs.Labels.{labels_fit}
 
@@ -107,5 +105,5 @@ unfoldable pub sheet_rules : List ℕ → List Rule
 sheet_rules s = headed_rules s (header_of s)
 
 -- What reading an encoding answers: the header, or the refusal of the first rule that is broken.
-unfoldable pub read_encoding : List ℕ → Reading
-read_encoding s = checked (sheet_rules s) Refused (Readable (header_of s))
+unfoldable pub read_encoding : List ℕ → Answer Header
+read_encoding s = checked (sheet_rules s) Err (Ok (header_of s))

@@ -1,12 +1,10 @@
 -- The call read: its reply, and what is promised of it (document 01, "The sheet"; document 02, L1 and L2).
-use Rattle.std.specs.Prelude.{ℕ, suc, ◌≤◌, ◌<◌, ◌≡◌, ◌⊎◌, true, List, [], ◌∷◌, length, get_or}
+use Rattle.std.specs.Prelude.{ℕ, suc, ◌≤◌, ◌<◌, ◌≡◌, ◌⊎◌, true, List, [], ◌∷◌, length, get_or, Ok, Err}
 use Rattle.lts.specs.declared.Refusal.{Refusal}
 use Rattle.lts.specs.System.{WellFormed}
 use Rattle.lts.specs.Labels.{Labels}
-use Rattle.lts.specs.Rule.{Nothing, First, broken, Reply, refused, given}
+use Rattle.lts.specs.Rule.{Nothing, First, broken, Reply, refused, given, Answer}
 use Rattle.encoding.specs.declared.Header.{Header}
-use Rattle.encoding.specs.declared.Reading.{Reading}
-use Rattle.encoding.specs.declared.Reading.TheVariants.{Readable, Refused}
 use Rattle.encoding.specs.Records.{header_of, label_record, state_record, transition_record}
 use Rattle.encoding.specs.Labels.{labels_of, IsLabel}
 use Rattle.encoding.specs.Encoding.{reached, indices, occurrences, sheet_rules}
@@ -19,9 +17,9 @@ abbrev pub counted : Header → Reply
 counted h = given (h.states ∷ h.actions ∷ h.transitions ∷ [])
 
 -- the reply of each answer
-unfoldable pub reading_reply : Reading → Reply
-reading_reply (Readable h) = counted h
-reading_reply (Refused r) = refused r
+unfoldable pub reading_reply : Answer Header → Reply
+reading_reply (Ok h) = counted h
+reading_reply (Err r) = refused r
 
 -- the Lts of a readable encoding is well-formed and has the header's counts, which are in range
 pub record Denoted (s : List ℕ) (h : Header) : Type 0 where

@@ -43,20 +43,12 @@ pub struct TransitionRecord {
     pub next: usize,
 }
 
-#[derive(Clone, Copy)]
-pub enum Reading {
-    Readable(Header),
-    Refused(lts::Refusal),
-}
-
 // The 16-bit number at `at`, low byte first.
 fn number_at(s: &[u8], at: usize) -> usize
     requires { at + 1 < length s.now }
     ensures { result ≡ number_at s.now at }
 {
-    let low = s[at] as usize;
-    let high = s[at + 1] as usize;
-    low + 256 * high
+    usize::from(u16::from_le_bytes([s[at], s[at + 1]]))
 }
 
 // Whether a byte may stand in a name.
@@ -212,11 +204,7 @@ impl LabelRecord {
         ensures { result ≡ label_record_at s.now at }
     {
         let mut bytes = [0u8; 16];
-        let mut d = 0;
-        while d < 16 {
-            bytes[d] = s[at + d];
-            d += 1;
-        }
+        bytes.copy_from_slice(&s[at..at + 16]);
         LabelRecord::new(bytes)
     }
 
@@ -224,39 +212,21 @@ impl LabelRecord {
         requires { at + 15 < length out.old }
         ensures { out.new ≡ sets out.old at (label_bytes self) }
     {
-        let mut d = 0;
-        while d < 16 {
-            out[at + d] = self.bytes[d];
-            d += 1;
-        }
+        out[at..at + 16].copy_from_slice(&self.bytes);
     }
 
     // Whether both have the same bytes.
     pub fn same(self, other: LabelRecord) -> bool
         ensures { result ≡ same_label self.bytes other.bytes }
     {
-        let mut d = 0;
-        while d < 16 {
-            if self.bytes[d] != other.bytes[d] {
-                return false;
-            }
-            d += 1;
-        }
-        true
+        self.bytes == other.bytes
     }
 
     // Whether it is a name of 1 to 16 bytes, then zeros.
     pub fn fits(self) -> bool
         ensures { result ≡ label_fits self.bytes }
     {
-        let mut d = 0;
-        while d < 15 {
-            if !follows(self.bytes[d], self.bytes[d + 1]) {
-                return false;
-            }
-            d += 1;
-        }
-        visible(self.bytes[0])
+        visible(self.bytes[0]) && (0..15).all(|d| follows(self.bytes[d], self.bytes[d + 1]))
     }
 }
 

@@ -1,22 +1,19 @@
 -- The call hand play: its reply (document 01, "Hand play and comparison" and the table of refusals), and what is promised of it.
-use Rattle.std.specs.Prelude.{ℕ, ◌≡◌, cond, not, List, [], ◌∷◌, ◌++◌, T, leb}
+use Rattle.std.specs.Prelude.{ℕ, ◌≡◌, Bool, cond, not, List, [], ◌∷◌, ◌++◌, T, leb, Ok, Err}
 use Rattle.lts.specs.declared.Refusal.{Refusal}
 use Rattle.lts.specs.declared.Refusal.TheVariants.{TooManyRounds}
-use Rattle.lts.specs.Rule.{Rule, ◌otherwise◌, Nothing, First, broken, checked, Reply, refused, given, Decides}
+use Rattle.lts.specs.Rule.{Rule, ◌otherwise◌, Nothing, First, broken, checked, Reply, refused, given, Decides, Answer}
 use Rattle.lts.specs.Rounds.{round}
 use Rattle.lts.specs.Game.{challenger_wins}
 use Rattle.encoding.specs.Records.{header_of}
 use Rattle.encoding.specs.Denotation.{lts_of}
 use Rattle.relation.specs.Matrix.{relation_of}
 use Rattle.inputs.specs.Inputs.{pair_rules}
-use Rattle.game.specs.declared.Played.{Played}
-use Rattle.game.specs.declared.Played.TheVariants.{Won, NotWon, Refused}
 
 -- the reply of each answer: whether the challenger wins
-unfoldable pub play_reply : Played → Reply
-play_reply Won = given (1 ∷ [])
-play_reply NotWon = given (0 ∷ [])
-play_reply (Refused r) = refused r
+unfoldable pub play_reply : Answer Bool → Reply
+play_reply (Ok b) = given (cond b 1 0 ∷ [])
+play_reply (Err r) = refused r
 
 -- the sheet, the start and the pair (1 to 11), then the rounds (12)
 unfoldable pub play_rules : List ℕ → List ℕ → ℕ → ℕ → ℕ → List Rule

@@ -10,12 +10,12 @@ ghost use Rattle.relation.specs.Matrix.{Matrix, relation_of};
 ghost use Rattle.game.specs.Memo.{wins, Playable, Right};
 ghost use Rattle.game.specs.Play.{play_reply, play_call, PlayPromise};
 
-// What hand play answers.
-#[derive(Clone, Copy)]
-pub enum Played {
+// What is known of the challenger at a pair, with a number of rounds left.
+#[derive(Clone, Copy, PartialEq, Eq)]
+enum Known {
+    Open,
+    Lost,
     Won,
-    NotWon,
-    Refused(lts::Refusal),
 }
 
 // Whether the challenger wins from the pair (p, q) with `rounds` rounds left. `memo` has the results already known.
@@ -23,7 +23,7 @@ pub enum Played {
 fn challenger(
     table: &transitions::Table,
     start: &[u64],
-    memo: &mut [u8],
+    memo: &mut [Known],
     p: usize,
     q: usize,
     rounds: usize,
@@ -41,24 +41,22 @@ fn challenger(
         return false;
     }
     let cell = ((rounds - 1) * n + p) * n + q;
-    if memo[cell] == 1 {
-        return false;
+    match memo[cell] {
+        Known::Open => {}
+        Known::Lost => return false,
+        Known::Won => return true,
     }
-    if memo[cell] == 2 {
-        return true;
-    }
+    let first = transitions::offset(table, p);
     let end = transitions::offset(table, p + 1);
-    let mut i = transitions::offset(table, p);
-    while i < end {
+    for i in first..end {
         let a = transitions::action(table, i);
         let t = transitions::target(table, i);
         if defender(table, start, memo, a, t, q, rounds) {
-            memo[cell] = 2;
+            memo[cell] = Known::Won;
             return true;
         }
-        i += 1;
     }
-    memo[cell] = 1;
+    memo[cell] = Known::Lost;
     false
 }
 
@@ -68,7 +66,7 @@ fn challenger(
 fn defender(
     table: &transitions::Table,
     start: &[u64],
-    memo: &mut [u8],
+    memo: &mut [Known],
     a: usize,
     t: usize,
     q: usize,
@@ -79,16 +77,15 @@ fn defender(
     ensures value { result ≡ defender_loses (table_lts table.now) (wins table.now start.now (rounds - 1)) q a t }
     ensures right { Right table.now start.now memo.new }
 {
+    let first = transitions::offset(table, q);
     let end = transitions::offset(table, q + 1);
-    let mut j = transitions::offset(table, q);
-    while j < end {
+    for j in first..end {
         if transitions::action(table, j) == a {
             let r = transitions::target(table, j);
             if !challenger(table, start, memo, t, r, rounds - 1) {
                 return false;
             }
         }
-        j += 1;
     }
     true
 }
@@ -99,7 +96,7 @@ fn wins_table(table: &transitions::Table, start: &[u64], p: usize, q: usize, rou
     requires p_bound { (p < states_of table.now) × (q < states_of table.now) × (rounds ≤ 6) }
     ensures { result ≡ wins table.now start.now rounds p q }
 {
-    let mut memo = [0u8; 393216];
+    let mut memo = [Known::Open; 393216];
     let n = transitions::states(table);
     let cells = 6 * n * n;
     challenger(table, start, &mut memo[..cells], p, q, rounds)
@@ -122,21 +119,19 @@ fn wins_readable(
 }
 
 // Hand play: whether the challenger wins from the pair (p, q) with `rounds` rounds.
-pub fn hand_play(s: &[u8], start: &[u64], p: usize, q: usize, rounds: usize) -> Played
+pub fn hand_play(
+    s: &[u8],
+    start: &[u64],
+    p: usize,
+    q: usize,
+    rounds: usize,
+) -> Result<bool, lts::Refusal>
     ensures rounds_value { play_call s.now start.now p q rounds ≡ play_reply result }
     ensures play_promise { PlayPromise s.now start.now p q rounds (play_reply result) }
 {
-    let reading = inputs::read_pair(s, start, p, q);
-    match reading {
-        encoding::Reading::Refused(r) => Played::Refused(r),
-        encoding::Reading::Readable(h) => {
-            if rounds > 6 {
-                return Played::Refused(lts::Refusal::TooManyRounds);
-            }
-            if wins_readable(s, h, start, p, q, rounds) {
-                return Played::Won;
-            }
-            Played::NotWon
-        }
+    let h = inputs::read_pair(s, start, p, q)?;
+    if rounds > 6 {
+        return Err(lts::Refusal::TooManyRounds);
     }
+    Ok(wins_readable(s, h, start, p, q, rounds))
 }

@@ -10,40 +10,44 @@ use lib.Dec.{leb}
 use lib.ListN.{length}
 use Rattle.lts.specs.declared.Refusal.{Refusal}
 use Rattle.lts.specs.declared.Refusal.TheVariants.{TooLarge, TooManyLabels}
-use Rattle.lts.specs.Rule.{Nothing, First, broken, checked}
+use Rattle.lts.specs.Rule.{Nothing, First, broken, checked, Answer}
 use Rattle.lts.proofs.Rule.{stop, pass, done, kept, refuses, passes, first_part, both-kept, second-checked, finding}
 use Rattle.encoding.specs.declared.Header.{Header}
-use Rattle.encoding.specs.declared.Reading.TheVariants.{Readable as Read, Refused as Unread}
 use Rattle.encoding.specs.Records.{header_of}
 use Rattle.encoding.specs.Labels.{labels_in}
 use Rattle.encoding.specs.Encoding.{sheet_rules, read_encoding}
 use Rattle.encoding.proofs.Reader.{sheet-broken, sheet-kept, kept-readable}
 use Rattle.labels.specs.Maps.{Matches}
-use Rattle.inputs.specs.declared.Both.{Both}
-use Rattle.inputs.specs.declared.Both.TheVariants.{Readable, Refused}
-use Rattle.inputs.specs.Both.{joint_labels, fits, joint_rules, both_rules, read_both, read_second, Matched, Joinable}
+use Rattle.inputs.specs.Both.{joint_labels, fits, joint_rules, both_rules, read_both, read_second, Matched, Joinable, joint_of}
+use Rattle.std.specs.Prelude.{Ok, Err}
+use Rattle.inputs.specs.declared.Joint.{Joint}
+
+-- equal answers have equal parts
+same_joint : {h h' g g' : Header} {m m' : ℕ} → joint_of h g m ≡ joint_of h' g' m' → (h ≡ h') × (g ≡ g') × (m ≡ m')
+same_joint {h} {h'} {g} {g'} {m} {m'} e =
+    let j : ◌≡◌ {A = Joint} (record { first = h; second = g; labels = m }) (record { first = h'; second = g'; labels = m' }) = cc in
+    (ap (λ (x : Joint). x.first) j, ap (λ (x : Joint). x.second) j, ap (λ (x : Joint). x.labels) j)
 
 -- a refusal says nothing of the list
-pub unmatched : {first second to : List ℕ} {r : Refusal} {both : Both} → both ≡ Refused r → length to ≡ 65 → Matched first second both to
+pub unmatched : {first second to : List ℕ} {r : Refusal} {both : (Answer Joint)} → both ≡ Err r → length to ≡ 65 → Matched first second both to
 unmatched {first} {second} {to} {r} e l = record { long = l; matches = λ h g m f. absurd (apart (sym e ∙ f)) }
   where
-    apart : {h g : Header} {m : ℕ} → Refused r ≡ Readable h g m → ⊥
+    apart : {h g : Header} {m : ℕ} → Err r ≡ joint_of h g m → ⊥
     apart f = let z : ◌≡◌ {A = ℕ} 1 0 = cc in omega (arith, z)
 
 -- where both sheets are read, it is what the labels say
-pub matched : {first second to : List ℕ} (h g : Header) (m : ℕ) {both : Both} → checked (joint_rules h g m) Refused (Readable h g m) ≡ both
+pub matched : {first second to : List ℕ} (h g : Header) (m : ℕ) {both : (Answer Joint)} → checked (joint_rules h g m) Err (joint_of h g m) ≡ both
     → Matches (labels_in first h) (labels_in second g) g.actions to → Matched first second both to
 matched {first} {second} {to} h g m e k = record { long = k.long; matches = λ h' g' m' f. by h' g' m' (finding (joint_rules h g m)) (e ∙ f) }
   where
     by : (h' g' : Header) (m' : ℕ) → (broken (joint_rules h g m) ≡ Nothing) ⊎ ((r : Refusal) × (broken (joint_rules h g m) ≡ First r))
-        → checked (joint_rules h g m) Refused (Readable h g m) ≡ Readable h' g' m' → Matches (labels_in first h') (labels_in second g') g'.actions to
+        → checked (joint_rules h g m) Err (joint_of h g m) ≡ joint_of h' g' m' → Matches (labels_in first h') (labels_in second g') g'.actions to
     by h' g' m' (inl p) f =
-        let c = sym (passes (joint_rules h g m) Refused (Readable h g m) p) ∙ f in
-        let a : h ≡ h' = cc in
-        let b : g ≡ g' = cc in
-        subst₂ (λ (x y : Header). Matches (labels_in first x) (labels_in second y) y.actions to) a b k
+        let c = sym (passes (joint_rules h g m) Err (joint_of h g m) p) ∙ f in
+        let s = same_joint c in
+        subst₂ (λ (x y : Header). Matches (labels_in first x) (labels_in second y) y.actions to) s.0 s.1 k
     by h' g' m' (inr q) f =
-        let c = sym (refuses (joint_rules h g m) Refused (Readable h g m) q.1) ∙ f in
+        let c = sym (refuses (joint_rules h g m) Err (joint_of h g m) q.1) ∙ f in
         let z : ◌≡◌ {A = ℕ} 1 0 = cc in
         omega (arith, z)
 
@@ -53,32 +57,32 @@ module _ (h g : Header) (m : ℕ) where
   abbrev small : Bool
   small = leb (h.states + g.states) 256 && leb (h.transitions + g.transitions) 1024
 
-  abbrev pub joint : Both
-  joint = checked (joint_rules h g m) Refused (Readable h g m)
+  abbrev pub joint : (Answer Joint)
+  joint = checked (joint_rules h g m) Err (joint_of h g m)
 
-  pub too_large : not small ≡ true → Refused TooLarge ≡ joint
+  pub too_large : not small ≡ true → Err TooLarge ≡ joint
   unfolding joint_rules fits
-  too_large t = sym (refuses _ Refused (Readable h g m) (stop small TooLarge _ refl refl t))
+  too_large t = sym (refuses _ Err (joint_of h g m) (stop small TooLarge _ refl refl t))
 
-  pub too_many : not small ≡ false → 64 < m → Refused TooManyLabels ≡ joint
+  pub too_many : not small ≡ false → 64 < m → Err TooManyLabels ≡ joint
   unfolding joint_rules fits
-  too_many t l = sym (refuses _ Refused (Readable h g m) (stop _ TooManyLabels [] (pass small TooLarge _ refl refl t) (sym (lt-leb m 64 l)) refl))
+  too_many t l = sym (refuses _ Err (joint_of h g m) (stop _ TooManyLabels [] (pass small TooLarge _ refl refl t) (sym (lt-leb m 64 l)) refl))
 
-  pub well-joined : not small ≡ false → m ≤ 64 → Readable h g m ≡ joint
+  pub well-joined : not small ≡ false → m ≤ 64 → joint_of h g m ≡ joint
   unfolding joint_rules fits
-  well-joined t l = sym (passes _ Refused (Readable h g m) (done (pass _ TooManyLabels [] (pass small TooLarge _ refl refl t) (sym (le-leb m 64 l)) refl)))
+  well-joined t l = sym (passes _ Err (joint_of h g m) (done (pass _ TooManyLabels [] (pass small TooLarge _ refl refl t) (sym (le-leb m 64 l)) refl)))
 
 -- ## The second sheet, after a first one with header h
 module _ (first : List ℕ) (h : Header) (second : List ℕ) where
-  pub second-unread : {r : Refusal} → read_encoding second ≡ Unread r → Refused r ≡ read_second first h second
+  pub second-unread : {r : Refusal} → read_encoding second ≡ Err r → Err r ≡ read_second first h second
   unfolding read_second
-  second-unread e = sym (refuses _ Refused _ (first_part (sheet_rules second) _ (sheet-broken second e)))
+  second-unread e = sym (refuses _ Err _ (first_part (sheet_rules second) _ (sheet-broken second e)))
 
-  pub second-read : {g : Header} {m : ℕ} → read_encoding second ≡ Read g → m ≡ length (joint_labels first h second g) → joint h g m ≡ read_second first h second
+  pub second-read : {g : Header} {m : ℕ} → read_encoding second ≡ Ok g → m ≡ length (joint_labels first h second g) → joint h g m ≡ read_second first h second
   unfolding read_second
-  second-read e c = let k = sheet-kept second e in rw (c, k.1) (sym (second-checked (sheet_rules second) _ Refused _ k.0))
+  second-read e c = let k = sheet-kept second e in rw (c, k.1) (sym (second-checked (sheet_rules second) _ Err _ k.0))
 
--- ## Both sheets
+-- ## (Answer Joint) sheets
 module _ (first second : List ℕ) where
   abbrev one : Header
   one = header_of first
@@ -91,33 +95,33 @@ module _ (first second : List ℕ) where
   unfolding both_rules
   parts = append_assoc (sheet_rules first) (sheet_rules second) _
 
-  abbrev both : Both
-  both = Readable one two (length (joint_labels first one second two))
+  abbrev both : (Answer Joint)
+  both = joint_of one two (length (joint_labels first one second two))
 
-  pub first-unread : {r : Refusal} → read_encoding first ≡ Unread r → Refused r ≡ read_both first second
+  pub first-unread : {r : Refusal} → read_encoding first ≡ Err r → Err r ≡ read_both first second
   unfolding read_both
-  first-unread e = sym (refuses _ Refused both (rw parts (first_part (sheet_rules first) _ (sheet-broken first e))))
+  first-unread e = sym (refuses _ Err both (rw parts (first_part (sheet_rules first) _ (sheet-broken first e))))
 
-  pub first_read : {h : Header} → read_encoding first ≡ Read h → read_second first h second ≡ read_both first second
+  pub first_read : {h : Header} → read_encoding first ≡ Ok h → read_second first h second ≡ read_both first second
   unfolding read_both read_second
-  first_read e = let k = sheet-kept first e in rw (parts, k.1) (sym (second-checked (sheet_rules first) _ Refused both k.0))
+  first_read e = let k = sheet-kept first e in rw (parts, k.1) (sym (second-checked (sheet_rules first) _ Err both k.0))
 
   -- what a caller learns
-  both-refused : {r : Refusal} → broken (both_rules first second) ≡ First r → read_both first second ≡ Refused r
+  both-refused : {r : Refusal} → broken (both_rules first second) ≡ First r → read_both first second ≡ Err r
   unfolding read_both
-  both-refused e = refuses (both_rules first second) Refused both e
+  both-refused e = refuses (both_rules first second) Err both e
 
   both-passed : broken (both_rules first second) ≡ Nothing → read_both first second ≡ both
   unfolding read_both
-  both-passed e = passes (both_rules first second) Refused both e
+  both-passed e = passes (both_rules first second) Err both e
 
-  pub both-broken : {r : Refusal} → read_both first second ≡ Refused r → broken (both_rules first second) ≡ First r
+  pub both-broken : {r : Refusal} → read_both first second ≡ Err r → broken (both_rules first second) ≡ First r
   both-broken {r} e = ⊎_elim (λ p. let f = both-passed p in cc)
       (λ q. let f = both-refused q.1 in let z : q.0 ≡ r = cc in q.1 ∙ ap First z) (finding (both_rules first second))
 
-  pub both_read : {h g : Header} {m : ℕ} → read_both first second ≡ Readable h g m
+  pub both_read : {h g : Header} {m : ℕ} → read_both first second ≡ joint_of h g m
       → (broken (both_rules first second) ≡ Nothing) × (h ≡ one) × (g ≡ two) × (m ≡ length (joint_labels first one second two))
-  both_read e = ⊎_elim (λ p. let f = both-passed p in (p, cc, cc, cc)) (λ q. let f = both-refused q.1 in (cc, cc, cc, cc)) (finding (both_rules first second))
+  both_read e = ⊎_elim (λ p. let s = same_joint (sym e ∙ both-passed p) in (p, s.0, s.1, s.2)) (λ q. let f = both-refused q.1 in (cc, cc, cc, cc)) (finding (both_rules first second))
 
   pub both-joinable : broken (both_rules first second) ≡ Nothing → Joinable first one second two (length (joint_labels first one second two))
   unfolding both_rules joint_rules fits
@@ -135,5 +139,5 @@ module _ (first second : List ℕ) where
         labels = leb-true _ _ (kept _ TooManyLabels [] size.1).0;
       }
 
-  pub joinable : {h g : Header} {m : ℕ} → read_both first second ≡ Readable h g m → Joinable first h second g m
+  pub joinable : {h g : Header} {m : ℕ} → read_both first second ≡ joint_of h g m → Joinable first h second g m
   joinable e = let k = both_read e in rw (k.3, k.1, k.2) (both-joinable k.0)

@@ -1,10 +1,8 @@
 -- The inputs that every call with a start begins with: a sheet, a start on its states, and for some calls a pair of its states.
-use Rattle.std.specs.Prelude.{ℕ, ◌≡◌, ◌&&◌, List, [], ◌∷◌, ◌++◌, ltb}
+use Rattle.std.specs.Prelude.{ℕ, ◌≡◌, ◌&&◌, List, [], ◌∷◌, ◌++◌, ltb, Ok, Err}
 use Rattle.lts.specs.declared.Refusal.TheVariants.{NoState}
-use Rattle.lts.specs.Rule.{Rule, ◌otherwise◌, Nothing, broken, checked}
+use Rattle.lts.specs.Rule.{Rule, ◌otherwise◌, Nothing, broken, checked, Answer}
 use Rattle.encoding.specs.declared.Header.{Header}
-use Rattle.encoding.specs.declared.Reading.{Reading}
-use Rattle.encoding.specs.declared.Reading.TheVariants.{Readable, Refused}
 use Rattle.encoding.specs.Records.{header_of}
 use Rattle.encoding.specs.Encoding.{sheet_rules}
 use Rattle.encoding.specs.Checked.{ReadableAs}
@@ -14,15 +12,15 @@ use Rattle.relation.specs.Check.{start_rules}
 unfoldable pub input_rules : List ℕ → List ℕ → List Rule
 input_rules s start = sheet_rules s ++ start_rules (header_of s).states start
 
-unfoldable pub read_inputs : List ℕ → List ℕ → Reading
-read_inputs s start = checked (input_rules s start) Refused (Readable (header_of s))
+unfoldable pub read_inputs : List ℕ → List ℕ → Answer Header
+read_inputs s start = checked (input_rules s start) Err (Ok (header_of s))
 
 -- then those of a pair's arguments (11)
 unfoldable pub pair_rules : List ℕ → List ℕ → ℕ → ℕ → List Rule
 pair_rules s start p q = let n = (header_of s).states in input_rules s start ++ (ltb p n && ltb q n) otherwise NoState ∷ []
 
-unfoldable pub read_pair : List ℕ → List ℕ → ℕ → ℕ → Reading
-read_pair s start p q = checked (pair_rules s start p q) Refused (Readable (header_of s))
+unfoldable pub read_pair : List ℕ → List ℕ → ℕ → ℕ → Answer Header
+read_pair s start p q = checked (pair_rules s start p q) Err (Ok (header_of s))
 
 -- what a caller has of inputs that keep the rules
 pub record Ready (s : List ℕ) (h : Header) (start : List ℕ) : Type 0 where

@@ -205,21 +205,17 @@ unfolding all_below
 sieve-none index x = record { bits = λ k h. bit_not 64 0 k h (pow_pos 64) ∙ ap not (bit-of-zero k) }
 
 pub sieve-more : (index x : List ℕ) (d : ℕ) {w u set : ℕ} → Sieved index x d set → w ≡ low_word d (get_or x d 0) → u ≡ high_word d (get_or x d 0)
-    → Sieved index x (d + 1) (bit_and (bit_and set (get_or index w 0)) (get_or index u 0))
+    → Sieved index x (d + 1) (bit_and set (bit_and (get_or index w 0) (get_or index u 0)))
 unfolding all_below
 sieve-more index x d {w} {u} {set} now one two = record {
   bits = λ k h.
-      bit-and (bit_and set (get_or index w 0)) (get_or index u 0) k
-      ∙ ap₂ ◌&&◌ (bit-and set (get_or index w 0) k ∙ ap₂ ◌&&◌ (now.bits k h) (word one k h)) (word two k h)
-      ∙ together (all_below d (agrees index x k)) _ _ ∙ sym (ap (λ (n : ℕ). all_below n (agrees index x k)) (add-one d));
+      bit-and set (bit_and (get_or index w 0) (get_or index u 0)) k
+      ∙ ap₂ ◌&&◌ (now.bits k h) (bit-and (get_or index w 0) (get_or index u 0) k ∙ ap₂ ◌&&◌ (word one k h) (word two k h))
+      ∙ sym (ap (λ (n : ℕ). all_below n (agrees index x k)) (add-one d));
 }
   where
     word : {v c : ℕ} → v ≡ c → (k : ℕ) → k < 64 → bit (get_or index v 0) k ≡ in_row index (c * 64 + k)
     word {v} {c} e k h = ap (λ (j : ℕ). bit (get_or index j 0) k) e ∙ sym (in_row-at index c k h)
-
-    together : (a b c : Bool) → (a && b) && c ≡ a && (b && c)
-    together true b c = refl
-    together false b c = refl
 
 -- both halves of two bytes are the same exactly if the bytes are
 halves : (b : Bool) (y x : ℕ) → (b && eqb (y % 16) (x % 16)) && (b && eqb (y / 16) (x / 16)) ≡ b && eqb y x
@@ -294,10 +290,8 @@ module _ (J : List (List ℕ)) (index x : List ℕ) (has : Indexed J index) (lon
       (lt-or-ge k (length J))
 
   -- the word of all 16 places finds the label
-  pub label-found : {d set : ℕ} → d ≡ 16 → Sieved index x d set → lowest 64 (in_row (set ∷ [])) ≡ cond (among same_label J x) (place_in same_label J x) 64
+  pub label-found : {d set : ℕ} → d ≡ 16 → Sieved index x d set → lowest 64 (bit set) ≡ cond (among same_label J x) (place_in same_label J x) 64
   label-found {d} {set} all now =
-      lowest-agree 64 _ (λ k. ltb k (length J) && same_label (get_or J k []) x) (λ k h.
-      let at : k ≡ 0 * 64 + k = omega arith in
-      ap (in_row (set ∷ [])) at ∙ in_row-at (set ∷ []) 0 k h ∙ now.bits k h
-      ∙ ap (λ (n : ℕ). all_below n (agrees index x k)) all ∙ sieved-all k h)
+      lowest-agree 64 _ (λ k. ltb k (length J) && same_label (get_or J k []) x)
+      (λ k h. now.bits k h ∙ ap (λ (n : ℕ). all_below n (agrees index x k)) all ∙ sieved-all k h)
       ∙ lowest-place 64 J x has.few

@@ -19,7 +19,7 @@ fn low_word(d: usize, v: u8) -> usize
     requires { d < 16 }
     ensures { (result ≡ low_word d v) × (result < 512) }
 {
-    32 * d + (v % 16) as usize
+    32 * d + usize::from(v % 16)
 }
 
 // And with its high half.
@@ -27,7 +27,7 @@ fn high_word(d: usize, v: u8) -> usize
     requires { d < 16 }
     ensures { (result ≡ high_word d v) × (result < 512) }
 {
-    32 * d + 16 + (v / 16) as usize
+    32 * d + 16 + usize::from(v / 16)
 }
 
 // Puts label number i, from 0, into the index of those before it.
@@ -35,12 +35,9 @@ pub fn add_label(index: &mut Index, i: usize, label: encoding::LabelRecord)
     requires { (i < 64) × ((J : List (List ℕ)) × Indexed J index.old × (i ≡ length J)) }
     ensures { (J : List (List ℕ)) → Indexed J index.old → i ≡ length J → Indexed (J ++ (label.bytes ∷ [])) index.new }
 {
-    let mut d = 0;
-    while d < 16 {
-        let v = label.bytes[d];
+    for (d, &v) in label.bytes.iter().enumerate() {
         rows::insert(index, low_word(d, v) * 64 + i);
         rows::insert(index, high_word(d, v) * 64 + i);
-        d += 1;
     }
 }
 
@@ -49,15 +46,12 @@ pub fn find_label(index: &Index, label: encoding::LabelRecord) -> usize
     ensures { (J : List (List ℕ)) → Indexed J index.now
         → result ≡ cond (among same_label J label.bytes) (place_in same_label J label.bytes) 64 }
 {
-    let mut set = 18446744073709551615u64;
-    let mut at = 0;
-    while at < 16 {
-        let v = label.bytes[at];
-        set = set & index[low_word(at, v)] & index[high_word(at, v)];
-        at += 1;
+    let mut set = u64::MAX;
+    for (at, &v) in label.bytes.iter().enumerate() {
+        set &= index[low_word(at, v)] & index[high_word(at, v)];
     }
-    let row = [set; 1];
-    rows::lowest_state(&row, 1)
+    // A word with no ones has 64 trailing zeros.
+    set.trailing_zeros() as usize
 }
 
 // The index of a sheet's labels.
@@ -66,11 +60,8 @@ fn index_labels(s: &[u8], h: encoding::Header) -> Index
     ensures { Indexed (labels_in s.now h) result }
 {
     let mut index = [0u64; 512];
-    let m = h.actions;
-    let mut i = 0;
-    while i < m {
+    for i in 0..h.actions {
         add_label(&mut index, i, encoding::label(s, h, i + 1));
-        i += 1;
     }
     index
 }
@@ -89,9 +80,7 @@ fn match_labels(
         → Matches A (labels_in s.now h) h.actions to.new }
 {
     let mut count = m;
-    let k = h.actions;
-    let mut i = 0;
-    while i < k {
+    for i in 0..h.actions {
         let place = find_label(index, encoding::label(s, h, i + 1));
         if place < 64 {
             to[i + 1] = (place + 1) as u16;
@@ -99,19 +88,8 @@ fn match_labels(
             count += 1;
             to[i + 1] = count as u16;
         }
-        i += 1;
     }
     count
-}
-
-// The larger of two numbers.
-fn larger(a: usize, b: usize) -> usize
-    ensures { result ≡ max a b }
-{
-    if a < b {
-        return b;
-    }
-    a
 }
 
 // The joined labels of two sheets: how many they are, and in `to` the number of each action of the second.
@@ -128,7 +106,7 @@ pub fn join_labels(
 {
     if !(h.named | g.named) {
         transitions::keep_actions(to, g.actions);
-        return larger(h.actions, g.actions);
+        return h.actions.max(g.actions);
     }
     let index = index_labels(first, h);
     match_labels(&index, h.actions, second, g, to)
@@ -139,12 +117,9 @@ pub fn put_labels(s: &[u8], h: encoding::Header, out: &mut [u8], at: usize)
     requires { Sized s.now h × (at + 16 * h.actions ≤ length out.old) }
     ensures { out.new ≡ sets out.old at (labels_bytes (labels_in s.now h)) }
 {
-    let m = h.actions;
-    let mut i = 0;
-    while i < m {
+    for i in 0..h.actions {
         let label = encoding::label(s, h, i + 1);
         label.put(out, at + encoding::LabelRecord::BYTES * i);
-        i += 1;
     }
 }
 
@@ -154,15 +129,12 @@ fn put_new(s: &[u8], h: encoding::Header, to: &transitions::ActionMap, m: usize,
     ensures { (A : List (List ℕ)) → Joining A (labels_in s.now h) m to.now out.old
         → Begins out.new (labels_bytes (joined_labels A (labels_in s.now h))) }
 {
-    let k = h.actions;
-    let mut i = 0;
-    while i < k {
+    for i in 0..h.actions {
         let a = rows::wide(to[i + 1]);
         if m < a {
             let label = encoding::label(s, h, i + 1);
             label.put(out, encoding::LabelRecord::BYTES * (a - 1));
         }
-        i += 1;
     }
 }
 

@@ -64,10 +64,8 @@ fn put_row(out: &mut [u8], from: usize, grid: &[u64], n: usize, p: usize) -> usi
     ensures upper_bound { result ≤ from + 4 * n }
 {
     let mut at = from;
-    let mut q = 0;
-    while q < n {
+    for q in 0..n {
         at = put_related(out, at, grid, n, p, q);
-        q += 1;
     }
     at
 }
@@ -98,10 +96,8 @@ pub fn put_states(
     ensures out_after { out.new ≡ written from (states_text n (relation_of n grid.now) representatives.now) out.old }
 {
     let mut at = from;
-    let mut p = 0;
-    while p < n {
-        at = put_state(out, at, grid, n, representatives[p] as usize, p);
-        p += 1;
+    for (p, name) in representatives.iter().enumerate() {
+        at = put_state(out, at, grid, n, usize::from(*name), p);
     }
     at
 }

@@ -7,7 +7,7 @@ use native.Mathlib.Omega.{arith}
 use Rattle.lts.specs.System.{Lts, termination_preorder}
 use Rattle.lts.specs.Refinement.{Run, coarsest, block_count, is_representative}
 use Rattle.lts.specs.declared.Refusal.{Refusal}
-use Rattle.lts.specs.Rule.{Nothing, broken}
+use Rattle.lts.specs.Rule.{Nothing, broken, Answer}
 use Rattle.lts.proofs.Comparison.{termination-preorder}
 use Rattle.lts.proofs.Count.{count_most}
 use Rattle.lts.proofs.Run.{pair-count-most, coarsest-steps}
@@ -27,13 +27,12 @@ use Rattle.simulation.specs.Calls.{WriteStartOutcome, write_start_call}
 use Rattle.simulation.proofs.CallLaws.{written}
 use Rattle.simulation.proofs.Starts.{end-start-kept}
 use Rattle.coarsest.specs.declared.Counts.{Counts}
-use Rattle.coarsest.specs.declared.Answer.{Answer}
-use Rattle.coarsest.specs.declared.Answer.TheVariants.{Done, Refused}
 use Rattle.coarsest.specs.Call.{CoarsestOutcome, coarsest_reply, refined, coarsest_call}
 use Rattle.coarsest.proofs.Laws.{fit-rules, refining}
 use Rattle.listing.specs.Call.{Fitting, Small, result_text}
 use Rattle.listing.specs.Text.{system_text}
 use Rattle.listing.proofs.Texts.{counts_in, outcome_text, refined-text}
+use Rattle.std.specs.Prelude.{Ok, Err}
 
 square : (n : ℕ) → n ≤ 256 → n * n ≤ 65536
 square n h = let t = mul-le-mul h h in omega arith
@@ -78,7 +77,7 @@ module _ (s : List ℕ) where
   refined-is = rw run_is
 
 -- what coarsest gives
-abbrev outcome_of : Answer → List ℕ → List ℕ → CoarsestOutcome
+abbrev outcome_of : Answer Counts → List ℕ → List ℕ → CoarsestOutcome
 outcome_of a grid representatives = record { reply = coarsest_reply a; grid = grid; representatives = representatives }
 
 module _ {s : List ℕ} {h : Header} {start grid representatives : List ℕ} (fits : Fitting s h start grid representatives) where
@@ -102,18 +101,18 @@ module _ {s : List ℕ} {h : Header} {start grid representatives : List ℕ} (fi
       rw start_is (refining s (end s) [] grid representatives (header_of s).states refl rules ∙ refined-is s)
 
   -- by the answer a, and the words g and m that it leaves
-  given_is : {a b : Answer} {g m : List ℕ} → a ≡ b → call ≡ outcome_of a g m → refined (lts_of s) (termination_preorder (lts_of s)) [] ≡ outcome_of b g m
-  given_is {g = g} {m = m} e is = sym call-is ∙ is ∙ ap (λ (x : Answer). outcome_of x g m) e
+  given_is : {a b : Answer Counts} {g m : List ℕ} → a ≡ b → call ≡ outcome_of a g m → refined (lts_of s) (termination_preorder (lts_of s)) [] ≡ outcome_of b g m
+  given_is {g = g} {m = m} e is = sym call-is ∙ is ∙ ap (λ (x : Answer Counts). outcome_of x g m) e
 
-  pub never-refused : {a : Answer} {r : Refusal} {g m : List ℕ} → a ≡ Refused r → call ≡ outcome_of a g m → ⊥
+  pub never-refused : {a : Answer Counts} {r : Refusal} {g m : List ℕ} → a ≡ Err r → call ≡ outcome_of a g m → ⊥
   unfolding refined coarsest_reply
   never-refused {r = r} e is = numbered r (ap (λ (o : CoarsestOutcome). o.reply.refusal) (given_is e is))
 
-  pub flow-small : {a : Answer} {c : Counts} {g m : List ℕ} → a ≡ Done c → call ≡ outcome_of a g m → Small c
+  pub flow-small : {a : Answer Counts} {c : Counts} {g m : List ℕ} → a ≡ Ok c → call ≡ outcome_of a g m → Small c
   unfolding coarsest_reply
   flow-small e is = subst Small (ap counts_in (given_is e is)) (counts-small fits.readable)
 
-  pub flow-text : {a : Answer} {c : Counts} {g m : List ℕ} → a ≡ Done c → call ≡ outcome_of a g m → result_text h.states c g m ≡ system_text (lts_of s)
+  pub flow-text : {a : Answer Counts} {c : Counts} {g m : List ℕ} → a ≡ Ok c → call ≡ outcome_of a g m → result_text h.states c g m ≡ system_text (lts_of s)
   unfolding coarsest_reply
   flow-text e is =
       sym (ap (outcome_text h.states) (given_is e is))

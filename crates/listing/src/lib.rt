@@ -23,13 +23,13 @@ fn refine(
     start: &mut [u64],
     grid: &mut [u64],
     representatives: &mut [u16],
-) -> coarsest::Answer
+) -> Result<coarsest::Counts, lts::Refusal>
     ensures { coarsest_call s.now (write_start_call termination_preorder s.now start.old).grid []
         grid.old representatives.old
         ≡ record { reply = coarsest_reply result; grid = grid.new; representatives = representatives.new } }
 {
     let schedule = [0u16; 0];
-    simulation::termination_preorder(s, start);
+    let _ = simulation::termination_preorder(s, start);
     coarsest::coarsest(s, start, &schedule, grid, representatives)
 }
 
@@ -39,7 +39,7 @@ fn put_refusal(out: &mut [u8], r: lts::Refusal) -> usize
     ensures value { result ≡ length (refused_line (refusal_number r)) }
     ensures out_after { out.new ≡ written 0 (refused_line (refusal_number r)) out.old }
 {
-    lines::put_refused(out, lts::refusal_number(r) as usize)
+    lines::put_refused(out, r.number() as usize)
 }
 
 // Writes the text of a result.
@@ -72,10 +72,9 @@ fn put_in(
     ensures out_after { out.new ≡ written 0 (system_text (lts_of s.now)) out.old }
 {
     let n = h.states;
-    let answer = refine(s, start, grid, representatives);
-    match answer {
-        coarsest::Answer::Refused(r) => put_refusal(out, r),
-        coarsest::Answer::Done(c) => put_result(out, n, c, grid, representatives),
+    match refine(s, start, grid, representatives) {
+        Err(r) => put_refusal(out, r),
+        Ok(c) => put_result(out, n, c, grid, representatives),
     }
 }
 
@@ -107,9 +106,8 @@ pub fn put_flow(s: &[u8], out: &mut Text) -> usize
     ensures out_after { out.new ≡ flow_text s.now ++ drop result out.old }
     ensures part { Part result out.new (flow_text s.now) }
 {
-    let reading = reader::read_encoding(s);
-    match reading {
-        encoding::Reading::Refused(r) => put_refusal(out, r),
-        encoding::Reading::Readable(h) => put_readable(s, h, out),
+    match reader::read_encoding(s) {
+        Err(r) => put_refusal(out, r),
+        Ok(h) => put_readable(s, h, out),
     }
 }

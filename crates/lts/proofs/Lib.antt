@@ -24,3 +24,4 @@ pub mod Carried
 pub mod Labels
 pub mod ByLabel
 pub mod LabelCases
+pub mod Ranges

@@ -10,10 +10,13 @@ use native.Mathlib.Numerals.{add-one}
 use native.Mathlib.Nat.{not-suc-le-zero, zero-lt-suc, le_refl, le_of_suc-le-suc, eq-or-lt_of_le, add-zero, add-suc, suc-add, mul-zero, mul-suc}
 use native.Mathlib.Decide.{dec_le}
 use borrow.Author.Tests.{eq-eqb, ne_eqb, not-true, not-false}
-use lib.ListN.{length, get_or, set, take, length-append, get_or-append}
-use lib.Seq.{sets, take-suc, take_all, length-take-le, get_or-append-add, get_or-append_seam}
+use lib.ListN.{length, get_or, set, take, drop, length-drop, length-append, get_or-append}
+use borrow.Rule.Slice.PartMut.{put_mid}
+use lib.Seq.{sets, sets-eq, drop-drop, take-suc, take_all, length-take-le, get_or-append-add, get_or-append_seam}
 use lib.Dec.{eqb}
-use Rattle.lts.specs.Bounded.{all_below, sum_below, count_below, passing, concat_below}
+use Rattle.std.proofs.lemmas.List.{get_or-take, get_or-drop}
+use Rattle.lts.specs.Bounded.{all_below, sum_below, count_below, passing, list_below, concat_below}
+use Rattle.lts.proofs.Below.{list_ext}
 use Rattle.lts.proofs.Bounded.{below_suc}
 
 -- at most n + 1: at most n, or n + 1
@@ -259,3 +262,11 @@ sets_more l at vs d h =
 
 pub sets-done : (l : List ℕ) (at : ℕ) (vs : List ℕ) (d : ℕ) {now : List ℕ} → now ≡ sets l at (take d vs) → length vs ≤ d → now ≡ sets l at vs
 sets-done l at vs d e h = e ∙ rw (take_all d vs h)
+
+-- a list that was written over in the middle, by a call on a part of it
+pub middle-sets : (a k : ℕ) (xs ys : List ℕ) → length ys ≡ k → a + k ≤ length xs → put_mid a k xs ys ≡ sets xs a ys
+middle-sets a k xs ys e h = ap (λ (l : List ℕ). take a xs ++ (ys ++ l)) (drop-drop k a xs ∙ ap (λ (n : ℕ). drop (a + n) xs) (sym e)) ∙ sym (append_assoc (take a xs) ys _) ∙ sym (sets-eq ys xs a (omega arith))
+
+-- a part of a list, element by element
+pub part_below : (a k : ℕ) (xs : List ℕ) → a + k ≤ length xs → take k (drop a xs) ≡ list_below k (λ i. get_or xs (a + i) 0)
+part_below a k xs h = list_ext k _ _ (length-take-le k (drop a xs) (omega (arith, length-drop a xs))) (λ i l. get_or-take k (drop a xs) i 0 l ∙ get_or-drop a xs i 0)

@@ -9,11 +9,10 @@ use lib.Dec.{T}
 use lib.ListN.{get_or, drop}
 use borrow.Author.Tests.{not-true, not-false}
 use Rattle.lts.specs.declared.Refusal.{Refusal}
-use Rattle.lts.specs.declared.Refusal.TheVariants.{Length, Range, Label, StateRecord, TransitionRecord, Unreached, ReachedTwice, Repeated, TooLarge, Grid}
-use Rattle.lts.specs.declared.Refusal.TheVariants.{TooManyLabels, NotDecimal, NotReflexive, NotTransitive, NoState, TooManyRounds, StillRelated, Unsound, Buffer}
+use Rattle.lts.specs.declared.Refusal.TheVariants.{Length, Range, Label, StateRecord, TransitionRecord, Unreached, ReachedTwice, Repeated, TooLarge, Grid, TooManyLabels, NotDecimal, NotReflexive, NotTransitive, NoState, TooManyRounds, StillRelated, Unsound, Buffer}
 use Rattle.lts.specs.Refusal.{refusal_number, refusal_record}
-use Rattle.lts.specs.declared.Checked.TheVariants.{Passed, Refused}
-use Rattle.lts.specs.Rule.{Rule, ◌otherwise◌, Finding, Nothing, First, broken, checked, Reply, given, check, Decides}
+use Rattle.lts.specs.Rule.{Rule, ◌otherwise◌, Finding, Nothing, First, broken, checked, Reply, given, check, Decides, Answer}
+use Rattle.std.specs.Prelude.{Ok, Err, IsErrAnd}
 
 -- ## A sequence of checks: what all the rules come to is what is left of them after the first k, which are kept
 abbrev pub After : ℕ → List Rule → Type 0
@@ -166,19 +165,19 @@ number-alone q r n e = number_same q r e (no_record q (λ f. n.0 (sym e ∙ f), 
 
 -- ## What an answer without a value says of the rules
 module _ (rules : List Rule) where
-  pub check-refused : {r : Refusal} → broken rules ≡ First r → Refused r ≡ check rules
+  pub check-refused : {r : Refusal} → broken rules ≡ First r → Err r ≡ check rules
   unfolding check
-  check-refused e = sym (refuses rules Refused Passed e)
+  check-refused e = sym (refuses rules Err (Ok tt) e)
 
-  pub check-passed : broken rules ≡ Nothing → Passed ≡ check rules
+  pub check-passed : broken rules ≡ Nothing → Ok tt ≡ check rules
   unfolding check
-  check-passed e = sym (passes rules Refused Passed e)
+  check-passed e = sym (passes rules Err (Ok tt) e)
 
-  pub check-broken : {r : Refusal} → check rules ≡ Refused r → broken rules ≡ First r
+  pub check-broken : {r : Refusal} → check rules ≡ Err r → broken rules ≡ First r
   check-broken {r} e = ⊎_elim (λ p. let f = check-passed p in cc)
       (λ q. let f = check-refused q.1 in let z : q.0 ≡ r = cc in q.1 ∙ ap First z) (finding rules)
 
-  pub check-kept : check rules ≡ Passed → broken rules ≡ Nothing
+  pub check-kept : check rules ≡ Ok tt → broken rules ≡ Nothing
   check-kept e = ⊎_elim (λ p. p) (λ q. let f = check-refused q.1 in cc) (finding rules)
 
 -- ## What came back from a call that comes to x
@@ -210,3 +209,8 @@ exactly xs false r ys before after = (λ e. tt, λ z. second-part xs (false othe
 pub decided : (b : Bool) {P : Type 0} {reply : Reply} (others : List ℕ) → T b ↔ P → reply ≡ given (cond b 1 0 ∷ others) → Decides reply P others
 decided true others i e = inl (e, i.0 tt)
 decided false others i e = inr (e, λ p. i.1 p)
+
+-- what the exit of a `?` returns: the refusal, as it is
+pub passed_on : {A : Type 0} (x : Answer A) {r : Refusal} → IsErrAnd x (λ e. e ≡ r) → x ≡ Err r
+passed_on (Ok a) h = absurd h
+passed_on (Err e) h = ap Err h

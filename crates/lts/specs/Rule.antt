@@ -1,8 +1,6 @@
 -- What a call checks and what it gives back: rules in the order of document 01's table, and replies as document 01's numbers.
-use Rattle.std.specs.Prelude.{ℕ, ◌≡◌, ◌⊎◌, Bool, true, false, List, [], ◌∷◌}
+use Rattle.std.specs.Prelude.{ℕ, ◌≡◌, ◌⊎◌, Bool, true, false, List, [], ◌∷◌, Result, Ok, Err}
 use Rattle.lts.specs.declared.Refusal.{Refusal}
-use Rattle.lts.specs.declared.Checked.{Checked}
-use Rattle.lts.specs.declared.Checked.TheVariants.{Passed, Refused}
 use Rattle.lts.specs.Refusal.{refusal_number, refusal_record}
 
 -- a rule: a test that is to pass, and the refusal that its breach gives
@@ -37,13 +35,17 @@ refused r = record { refusal = refusal_number r; record_number = refusal_record 
 abbrev pub given : List ℕ → Reply
 given values = record { refusal = 0; record_number = 0; values = values }
 
--- what a check of rules answers that has no value to give; and the reply of such an answer
-unfoldable pub check : List Rule → Checked
-check rules = checked rules Refused Passed
+-- what a call answers: a value, or a refusal
+abbrev pub Answer : Type 0 → Type 0
+Answer A = Result A Refusal
 
-unfoldable pub checked_reply : Checked → Reply
-checked_reply Passed = given []
-checked_reply (Refused r) = refused r
+-- what a check of rules answers that has no value to give; and the reply of such an answer
+unfoldable pub check : List Rule → Answer (Unit {0})
+check rules = checked rules Err (Ok tt)
+
+unfoldable pub checked_reply : Answer (Unit {0}) → Reply
+checked_reply (Ok tt) = given []
+checked_reply (Err r) = refused r
 
 -- the reply says whether P holds: 1 for yes, 0 for no, and then the other values
 abbrev pub Decides : Reply → Type 0 → List ℕ → Type 0

@@ -8,7 +8,6 @@ use lib.ListN.{length, replicate}
 use Rattle.lts.specs.Bounded.{all_below, passing, concat_below, list_below, lowest}
 use Rattle.lts.specs.declared.Refusal.TheVariants.{Length, Range}
 use Rattle.encoding.specs.declared.Header.{Header}
-use Rattle.encoding.specs.declared.Reading.TheVariants.{Readable, Refused}
 use Rattle.encoding.specs.Records.{number_at, header_of, label_record_at, label_record, state_record_at, transition_record_at, state_record, transition_record, labels_length, two, header_bytes, state_bytes, transition_bytes}
 use Rattle.encoding.specs.Labels.{visible, follows, label_fits, label_in, labels_in, labels_fit, Labelling, labels_of, labelling_of, labels_bytes, records_of}
 use Rattle.encoding.specs.Encoding.{in_range, state_fits, transition_fits, states_fit, transitions_fit, walk, chain, reached, member, on_some_chain, all_reached, indices, occurrences, named_twice, none_twice, distinct, successor, successors_fit, headed_rules, sheet_rules, read_encoding}
@@ -26,6 +25,7 @@ use Rattle.encoding.proofs.Reader.{readable_of}
 use Rattle.normal_form.proofs.Encodable.{labelled-header, sheet-encodable}
 use Rattle.normal_form.proofs.Laws.{normal-form}
 use Rattle.encoding.proofs.Sheets.{state, by, F1, F2, F3, F3-turned, F4, F7, F8, opens, shuts, named, F3-open, F3-open-turned, by-action, by-target, chain-turned}
+use Rattle.std.specs.Prelude.{Ok, Err}
 
 abbrev counts : ℕ → ℕ → ℕ → Header
 counts n m k = record { states = n; actions = m; transitions = k; named = false }
@@ -35,11 +35,11 @@ abbrev normal_of : List ℕ → List ℕ
 normal_of s = normal (labelling_of s) (lts_of s)
 
 -- ## Reading
-reads : (read_encoding F1 ≡ Readable (counts 1 0 0)) × (read_encoding F2 ≡ Readable (counts 2 1 2)) × (read_encoding F3 ≡ Readable (counts 3 1 2))
-    × (read_encoding F3-turned ≡ Readable (counts 3 1 2)) × (read_encoding F4 ≡ Readable (counts 4 1 3)) × (read_encoding F7 ≡ Refused Range)
-    × (read_encoding F8 ≡ Refused Length)
-    × (read_encoding by-action ≡ Readable (counts 2 2 2)) × (read_encoding by-target ≡ Readable (counts 2 2 2))
-    × (read_encoding chain-turned ≡ Readable (counts 2 2 2))
+reads : (read_encoding F1 ≡ Ok (counts 1 0 0)) × (read_encoding F2 ≡ Ok (counts 2 1 2)) × (read_encoding F3 ≡ Ok (counts 3 1 2))
+    × (read_encoding F3-turned ≡ Ok (counts 3 1 2)) × (read_encoding F4 ≡ Ok (counts 4 1 3)) × (read_encoding F7 ≡ Err Range)
+    × (read_encoding F8 ≡ Err Length)
+    × (read_encoding by-action ≡ Ok (counts 2 2 2)) × (read_encoding by-target ≡ Ok (counts 2 2 2))
+    × (read_encoding chain-turned ≡ Ok (counts 2 2 2))
 unfolding number_at header_of state_record_at transition_record_at state_record transition_record labels_length labels_fit in_range state_fits transition_fits all_below states_fit transitions_fit walk chain concat_below reached member list_below lowest on_some_chain all_reached indices occurrences named_twice none_twice distinct successor successors_fit headed_rules sheet_rules broken checked read_encoding
 reads = (refl, refl, refl, refl, refl, refl, refl, refl, refl, refl)
 
@@ -68,7 +68,7 @@ unfolding number_at state_record_at transition_record_at state_record transition
 not-normal = (λ n. false≢true n.ordered, λ n. turned n.consecutive, λ n. turned n.consecutive)
 
 -- so that records by target, then action, are refused as a normal form, though they are read and denote the same Lts
-form : (s : List ℕ) {h : Header} → read_encoding s ≡ Readable h → NormalForm (labelling_of s) (lts_of s) (normal_of s)
+form : (s : List ℕ) {h : Header} → read_encoding s ≡ Ok h → NormalForm (labelling_of s) (lts_of s) (normal_of s)
 form s e = normal-form (labelling_of s) (lts_of s) (sheet-encodable (readable_of e))
 
 same-lts : lts_of by-target ≡ lts_of by-action
@@ -89,7 +89,7 @@ rules-kept = refl
 not-by-target : (reply : Reply) → NormalisePromise by-action blank reply by-target → ⊥
 not-by-target reply p = refused (p.answers rules-kept).3
 
-blank-refused : read_encoding blank ≡ Refused Range
+blank-refused : read_encoding blank ≡ Err Range
 unfolding blank number_at header_of labels_length in_range headed_rules sheet_rules broken checked read_encoding
 blank-refused = refl
 

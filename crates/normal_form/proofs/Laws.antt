@@ -9,7 +9,6 @@ use Rattle.lts.specs.declared.Refusal.{Refusal}
 use Rattle.lts.specs.Rule.{Nothing, First, broken, Reply, refused, given}
 use Rattle.lts.proofs.Rule.{when-broken, when-kept, both-kept}
 use Rattle.encoding.specs.declared.Header.{Header}
-use Rattle.encoding.specs.declared.Reading.TheVariants.{Readable}
 use Rattle.encoding.specs.Records.{header_of, IsBytes}
 use Rattle.encoding.specs.Encoding.{sheet_rules, read_encoding}
 use Rattle.encoding.specs.Labels.{Labelling, labelling_of}
@@ -25,6 +24,7 @@ use Rattle.normal_form.proofs.NormalLabels.{same-labelling}
 use Rattle.normal_form.proofs.NormalSame.{normal-readable, same}
 use Rattle.normal_form.proofs.NormalOrder.{normal-is, normal-bytes}
 use Rattle.normal_form.proofs.NormalOnly.{only_one}
+use Rattle.std.specs.Prelude.{Ok}
 
 -- what is in normal form is what `normal` writes
 is-normal-of : (s : List ℕ) (h : Header) → IsBytes s → ReadableAs s h → IsNormal s h → s ≡ normal (labelling_of s) (lts_of s)
@@ -48,7 +48,7 @@ normal-form K L w = record {
 }
 
 -- a readable sequence of bytes is in normal form exactly if it is what `normal` writes of its labels and Lts
-pub normal-iff : (s : List ℕ) (h : Header) → read_encoding s ≡ Readable h → IsBytes s → IsNormal s h ↔ (s ≡ normal (labelling_of s) (lts_of s))
+pub normal-iff : (s : List ℕ) (h : Header) → read_encoding s ≡ Ok h → IsBytes s → IsNormal s h ↔ (s ≡ normal (labelling_of s) (lts_of s))
 normal-iff s h e b =
     let g = readable_of e in
     let is = normal-is (labelling_of s) (lts_of s) (sheet-encodable g) in (
@@ -68,7 +68,7 @@ module _ (s out₀ : List ℕ) (reply : Reply) (out : List ℕ) (is : normalise_
   unfolding normalise_call
   kept-is e = when-kept (normalise_rules s out₀) _ _ is e
 
-  read_kept : broken (normalise_rules s out₀) ≡ Nothing → read_encoding s ≡ Readable (header_of s)
+  read_kept : broken (normalise_rules s out₀) ≡ Nothing → read_encoding s ≡ Ok (header_of s)
   unfolding normalise_rules
   read_kept e = sym (sheet-passed s refl (both-kept (sheet_rules s) _ e).0)
 

@@ -1,12 +1,11 @@
 -- Normal form in document 01's words ("The sheet"): records ordered by source page, then action, then target; each chain consecutive and in
 -- that order; one for each kind (document 02, L2). The law `normal-form` (proofs/Laws.antt) says that `normal` writes it of every labelling
 -- and system that a sheet can hold, and that there is no other.
-use Rattle.std.specs.Prelude.{ℕ, suc, ◌+◌, ◌≤◌, ◌<◌, ◌≡◌, Bool, true, false, ◌&&◌, ◌||◌, List, [], length, get_or, T, ltb, eqb}
+use Rattle.std.specs.Prelude.{ℕ, suc, ◌+◌, ◌≤◌, ◌<◌, ◌≡◌, Bool, true, false, ◌&&◌, ◌||◌, List, [], length, get_or, T, ltb, eqb, Ok}
 use Rattle.lts.specs.Bounded.{all_below, list_below}
 use Rattle.lts.specs.System.{Lts, WellFormed}
 use Rattle.encoding.specs.declared.Header.{Header}
 use Rattle.encoding.specs.declared.TransitionRecord.{TransitionRecord}
-use Rattle.encoding.specs.declared.Reading.TheVariants.{Readable}
 use Rattle.encoding.specs.Records.{IsBytes, transition_record}
 use Rattle.encoding.specs.Encoding.{reached, read_encoding}
 use Rattle.encoding.specs.Denotation.{lts_of}
@@ -50,9 +49,9 @@ pub record Encodable (K : Labelling) (L : Lts) : Type 0 where
 pub record NormalForm (K : Labelling) (L : Lts) (t : List ℕ) : Type 0 where
   -- it is a sequence of bytes; it is read, with the counts of L and the kind as header, has the labels, and denotes L
   pub bytes : IsBytes t
-  pub reads : read_encoding t ≡ Readable (normal_header K.named L)
+  pub reads : read_encoding t ≡ Ok (normal_header K.named L)
   pub labelling : labelling_of t ≡ K
   pub same : lts_of t ≡ L
   -- it is in normal form, and there is no other: every readable sequence of bytes in normal form with this kind, these labels and this Lts is t
   pub normal : IsNormal t (normal_header K.named L)
-  pub only : (u : List ℕ) (h : Header) → IsBytes u → read_encoding u ≡ Readable h → IsNormal u h → labelling_of u ≡ K → lts_of u ≡ L → u ≡ t
+  pub only : (u : List ℕ) (h : Header) → IsBytes u → read_encoding u ≡ Ok h → IsNormal u h → labelling_of u ≡ K → lts_of u ≡ L → u ≡ t

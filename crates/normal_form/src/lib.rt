@@ -67,29 +67,13 @@ fn table_header(table: &transitions::Table, named: bool) -> encoding::Header
     encoding::Header::new(n, m, transitions::count(table), named)
 }
 
-// Writes the label records.
-fn write_labels(out: &mut [u8], labels: &[u8])
-    requires { 6 + length labels.now ≤ length out.old }
-    ensures { out.new ≡ sets out.old 6 labels.now }
-{
-    let mut i = 0;
-    while i < labels.len() {
-        out[encoding::Header::BYTES + i] = labels[i];
-        i += 1;
-    }
-}
-
 // Writes the state records.
 fn write_states(out: &mut [u8], h: encoding::Header, table: &transitions::Table)
     requires { Formed table.now × Counts table.now h × (encoding_length h ≤ length out.old) }
     ensures { out.new ≡ sets out.old (state_at h 0) (states_bytes (table_lts table.now) h.states) }
 {
-    let n = h.states;
-    let mut p = 0;
-    while p < n {
-        let r = table_state(table, p);
-        r.put(out, h.state_at(p));
-        p += 1;
+    for p in 0..h.states {
+        table_state(table, p).put(out, h.state_at(p));
     }
 }
 
@@ -98,12 +82,8 @@ fn write_transitions(out: &mut [u8], h: encoding::Header, table: &transitions::T
     requires { Formed table.now × Counts table.now h × (encoding_length h ≤ length out.old) }
     ensures { out.new ≡ sets out.old (transition_at h 1) (transitions_bytes 1 (transitions (table_lts table.now))) }
 {
-    let k = h.transitions;
-    let mut i = 0;
-    while i < k {
-        let r = table_transition(table, i);
-        r.put(out, h.transition_at(i + 1));
-        i += 1;
+    for i in 0..h.transitions {
+        table_transition(table, i).put(out, h.transition_at(i + 1));
     }
 }
 
@@ -124,27 +104,23 @@ pub fn write_table(table: &transitions::Table, named: bool, labels: &[u8], out: 
 {
     let h = table_header(table, named);
     h.put(out);
-    write_labels(out, labels);
+    let at = encoding::Header::BYTES;
+    out[at..at + labels.len()].copy_from_slice(labels);
     write_states(out, h, table);
     write_transitions(out, h, table);
 }
 
 // Writes an encoding's normal form, the only one that its kind, labels and Lts have. An encoding that is refused, and a buffer of another
 // length than the encoding's own, leave the buffer as it is.
-pub fn normalise(s: &[u8], out: &mut [u8]) -> lts::Checked
+pub fn normalise(s: &[u8], out: &mut [u8]) -> Result<(), lts::Refusal>
     ensures out_value { normalise_call s.now out.old ≡ record { reply = checked_reply result; out = out.new } }
     ensures normalise_promise { NormalisePromise s.now out.old (checked_reply result) out.new }
 {
-    let answer = reader::read_encoding(s);
-    match answer {
-        encoding::Reading::Refused(r) => lts::Checked::Refused(r),
-        encoding::Reading::Readable(h) => {
-            if out.len() != s.len() {
-                return lts::Checked::Refused(lts::Refusal::Buffer);
-            }
-            let table = transitions::load(s, h);
-            write_table(&table, h.named, encoding::label_bytes(s, h), out);
-            lts::Checked::Passed
-        }
+    let h = reader::read_encoding(s)?;
+    if out.len() != s.len() {
+        return Err(lts::Refusal::Buffer);
     }
+    let table = transitions::load(s, h);
+    write_table(&table, h.named, encoding::label_bytes(s, h), out);
+    Ok(())
 }

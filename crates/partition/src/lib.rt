@@ -1,4 +1,5 @@
 // The blocks of a relation as a list of sets (set p is the block of p), and the pending ones (document 01, "Turns"); blocks of a bit matrix counted and named.
+// An array that a call gives is bound before it is stored, as in `let rest = f(left); left = rest;`: the check does not cover `left = f(left);`.
 #![tactic(auto)]
 
 ghost use Rattle.std.specs.Prelude.{◌≡◌, true, false, cond, ◌&&◌, ◌||◌, ℕ, ◌+◌, ◌*◌, ◌%◌, ◌<◌, ◌≤◌, eqb, length, get_or};
@@ -6,52 +7,22 @@ ghost use Rattle.std.specs.Bool.{xor};
 ghost use Rattle.lts.specs.Bounded.{any_below, count_below, passing, list_below, lowest};
 ghost use Rattle.lts.specs.System.{Set};
 ghost use Rattle.lts.specs.Refinement.{block};
-ghost use Rattle.rows.specs.Rows.{bit, word_of, in_row, row_of};
-ghost use Rattle.sets.specs.Sets.{set_at, sets_of, window};
+ghost use Rattle.rows.specs.Rows.{in_row, row_of};
+ghost use Rattle.sets.specs.Sets.{set_at, sets_of};
 ghost use Rattle.sets.specs.Parts.{Parted, Owned};
 ghost use Rattle.relation.specs.Matrix.{relation_of, Matrix};
 ghost use Rattle.partition.specs.Pending.{pending_in, Singles, Reflexive, Ordered, Grown};
-
-// Puts the set `row` into the places of the states of word c that `word` holds.
-fn put_word(list: &mut [u64], row: [u64; 4], c: usize, word: u64)
-    requires { (length list.old ≡ 1024) × (c < 4) }
-    ensures { list.new ≡ sets_of 256 (λ p q. cond (window c word p) (in_row row q) (set_at list.old p q)) }
-{
-    let mut left = word;
-    while left != 0 {
-        let g = 64 * c + u64::trailing_zeros(left) as usize;
-        left = left & (left - 1);
-        sets::put(list, g, row);
-    }
-}
 
 // Puts the set `row` into the place of each member.
 pub fn set_rows(list: &mut [u64], members: [u64; 4], row: [u64; 4])
     requires { length list.old ≡ 1024 }
     ensures { list.new ≡ sets_of 256 (λ p q. cond (in_row members p) (in_row row q) (set_at list.old p q)) }
 {
-    let mut c = 0;
-    while c < 4 {
-        put_word(list, row, c, members[c]);
-        c += 1;
+    for c in 0..4 {
+        for i in rows::ones(members[c]) {
+            sets::put(list, 64 * c + i, row);
+        }
     }
-}
-
-// The bits of `word`, word c of a set, whose states have different sets in the two lists.
-fn differing_word(a: &[u64], b: &[u64], c: usize, word: u64) -> u64
-    requires { (length a.now ≡ 1024) × (length b.now ≡ 1024) × (c < 4) }
-    ensures { result ≡ word_of 64 (λ i. bit word i
-        && any_below 256 (λ q. xor (set_at a.now (64 * c + i) q) (set_at b.now (64 * c + i) q))) }
-{
-    let mut out = 0;
-    let mut left = word;
-    while left != 0 {
-        let i = u64::trailing_zeros(left) as usize;
-        left = left & (left - 1);
-        let p = 64 * c + i;
-        out = out | (sets::digit(sets::differ(sets::at(a, p), sets::at(b, p))) << i);
-    }
-    out
 }
 
 // The members whose sets in the two lists differ.
@@ -60,10 +31,13 @@ fn differing(a: &[u64], b: &[u64], members: [u64; 4]) -> [u64; 4]
     ensures { result ≡ row_of 4 (λ p. in_row members p && any_below 256 (λ q. xor (set_at a.now p q) (set_at b.now p q))) }
 {
     let mut out = [0u64; 4];
-    let mut c = 0;
-    while c < 4 {
-        out[c] = differing_word(a, b, c, members[c]);
-        c += 1;
+    for c in 0..4 {
+        let mut word = 0;
+        for i in rows::ones(members[c]) {
+            let p = 64 * c + i;
+            word |= u64::from(sets::differ(sets::at(a, p), sets::at(b, p))) << i;
+        }
+        out[c] = word;
     }
     out
 }
@@ -179,7 +153,7 @@ pub fn next_block(pending: &[u64; 4], schedule: &[u16], step: usize) -> usize
         result ≡ get_or names (get_or schedule.now step 0 % length names) 0 }
 {
     if step < schedule.len() {
-        let e = rows::wide(schedule[step]);
+        let e = usize::from(schedule[step]);
         return sets::member_at(pending, e % rows::row_count(pending, 4));
     }
     rows::lowest_state(pending, 4)
@@ -227,10 +201,8 @@ pub fn write_blocks(related: &[u64], n: usize, blocks: &mut [u64])
     ensures { blocks.new ≡ sets_of 256 (block (set_at related.now)) }
 {
     let mut written = [0u64; 4];
-    let mut p = 0;
-    while p < n {
+    for p in 0..n {
         write_block(related, p, blocks, &mut written);
-        p += 1;
     }
 }
 
@@ -240,14 +212,10 @@ pub fn count_blocks(blocks: &[u64], n: usize) -> usize
     ensures { result ≡ count_below n (λ p. eqb (lowest n (relation_of n blocks.now p)) p) }
 {
     let w = rows::row_words(n);
-    let mut total: usize = 0;
-    let mut p = 0;
-    while p < n {
+    let mut total = 0;
+    for p in 0..n {
         if rows::lowest_state(relation::row_at(blocks, n, p), w) == p {
             total += 1;
-            p += 1;
-        } else {
-            p += 1;
         }
     }
     total
@@ -259,10 +227,8 @@ pub fn write_names(blocks: &[u64], n: usize, names: &mut [u16])
     ensures { names.new ≡ list_below n (λ p. lowest n (relation_of n blocks.now p)) }
 {
     let w = rows::row_words(n);
-    let mut p = 0;
-    while p < n {
+    for (p, name) in names.iter_mut().enumerate() {
         let low = rows::lowest_state(relation::row_at(blocks, n, p), w);
-        names[p] = low as u16;
-        p += 1;
+        *name = low as u16;
     }
 }

@@ -13,15 +13,13 @@ use Rattle.lts.specs.Rule.{Reply, broken, checked, refused}
 use Rattle.lts.specs.Places.{among, distinct as labelsDistinct}
 use Rattle.lts.specs.Labels.{same_label}
 use Rattle.lts.proofs.Below.{clash, lt-or-ge}
-use Rattle.encoding.specs.declared.Reading.TheVariants.{Readable, Refused}
-use Rattle.encoding.specs.Records.{number_at, header_of, labels_length, label_record_at, state_record_at, transition_record_at}
-use Rattle.encoding.specs.Records.{label_record, state_record, transition_record}
+use Rattle.encoding.specs.Records.{number_at, header_of, labels_length, label_record_at, state_record_at, transition_record_at, label_record, state_record, transition_record}
 use Rattle.encoding.specs.Labels.{visible, follows, label_fits, label_in, labels_in, labels_fit}
-use Rattle.encoding.specs.Encoding.{in_range, state_fits, transition_fits, states_fit, transitions_fit, walk, chain, reached, member, on_some_chain, all_reached}
-use Rattle.encoding.specs.Encoding.{indices, occurrences, named_twice, none_twice, distinct, successor, successors_fit, headed_rules, sheet_rules, read_encoding}
+use Rattle.encoding.specs.Encoding.{in_range, state_fits, transition_fits, states_fit, transitions_fit, walk, chain, reached, member, on_some_chain, all_reached, indices, occurrences, named_twice, none_twice, distinct, successor, successors_fit, headed_rules, sheet_rules, read_encoding}
 use Rattle.encoding.specs.Read.{reading_reply, counted, Misnamed, bad, repeated, WellNamed, ReadPromise}
 use Rattle.encoding.proofs.Sheets.{state, F9, endless, lone, cycle, gaps, both, shared, joining, doubled, name, opens, named, F3-named, F3-open}
 use Rattle.reader.proofs.Promise.{read-promised}
+use Rattle.std.specs.Prelude.{Ok, Err}
 
 -- ## Named sheets
 -- good names: "open"; the shortest and the longest, hexadecimal 21 and 7E; none, so that there are no moves
@@ -56,28 +54,28 @@ after-length = empty_name ++ (0 ∷ [])
 
 -- ## What reading them, and sheets with bad chains, answers
 pub record Readings : Type 0 where
-  pub opened : read_encoding F3-open ≡ Readable (record { states = 3; actions = 1; transitions = 2; named = true })
-  pub longest : read_encoding F3-long ≡ Readable (record { states = 3; actions = 2; transitions = 2; named = true })
-  pub nameless : read_encoding no_names ≡ Readable (record { states = 1; actions = 0; transitions = 0; named = true })
-  pub empty : read_encoding empty_name ≡ Refused Label
-  pub after_zero : read_encoding after-zero ≡ Refused Label
-  pub too_high : read_encoding too-high ≡ Refused Label
-  pub too_low : read_encoding too-low ≡ Refused Label
-  pub repeated_name : read_encoding repeated-name ≡ Refused Label
+  pub opened : read_encoding F3-open ≡ Ok (record { states = 3; actions = 1; transitions = 2; named = true })
+  pub longest : read_encoding F3-long ≡ Ok (record { states = 3; actions = 2; transitions = 2; named = true })
+  pub nameless : read_encoding no_names ≡ Ok (record { states = 1; actions = 0; transitions = 0; named = true })
+  pub empty : read_encoding empty_name ≡ Err Label
+  pub after_zero : read_encoding after-zero ≡ Err Label
+  pub too_high : read_encoding too-high ≡ Err Label
+  pub too_low : read_encoding too-low ≡ Err Label
+  pub repeated_name : read_encoding repeated-name ≡ Err Label
   -- 17 before 3, and after the length
-  pub before_records : read_encoding before-records ≡ Refused Label
-  pub after_length : read_encoding after-length ≡ Refused Length
+  pub before_records : read_encoding before-records ≡ Err Label
+  pub after_length : read_encoding after-length ≡ Err Length
   -- a record that names itself, in F9, reached and not; a cycle that no state reaches; the lowest of two on no chain; both faults
-  pub f9 : read_encoding F9 ≡ Refused (ReachedTwice 1)
-  pub itself : read_encoding endless ≡ Refused (ReachedTwice 1)
-  pub alone : read_encoding lone ≡ Refused (Unreached 1)
-  pub in_cycle : read_encoding cycle ≡ Refused (Unreached 1)
-  pub lowest_gap : read_encoding gaps ≡ Refused (Unreached 1)
-  pub both_faults : read_encoding both ≡ Refused (Unreached 2)
+  pub f9 : read_encoding F9 ≡ Err (ReachedTwice 1)
+  pub itself : read_encoding endless ≡ Err (ReachedTwice 1)
+  pub alone : read_encoding lone ≡ Err (Unreached 1)
+  pub in_cycle : read_encoding cycle ≡ Err (Unreached 1)
+  pub lowest_gap : read_encoding gaps ≡ Err (Unreached 1)
+  pub both_faults : read_encoding both ≡ Err (Unreached 2)
   -- a record that two states name; one that a state and a record name; the lowest of two that are named twice
-  pub by_states : read_encoding shared ≡ Refused (ReachedTwice 2)
-  pub by_record : read_encoding joining ≡ Refused (ReachedTwice 2)
-  pub lowest_twice : read_encoding doubled ≡ Refused (ReachedTwice 1)
+  pub by_states : read_encoding shared ≡ Err (ReachedTwice 2)
+  pub by_record : read_encoding joining ≡ Err (ReachedTwice 2)
+  pub lowest_twice : read_encoding doubled ≡ Err (ReachedTwice 1)
 
 pub readings : Readings
 unfolding number_at header_of labels_length label_record_at state_record_at transition_record_at label_record state_record transition_record in_range visible follows
@@ -107,7 +105,7 @@ readings = record {
 }
 
 -- so this is promised of the refusal
-so : (s : List ℕ) {r : Refusal} → read_encoding s ≡ Refused r → ReadPromise s (refused r)
+so : (s : List ℕ) {r : Refusal} → read_encoding s ≡ Err r → ReadPromise s (refused r)
 unfolding reading_reply
 so s e = read-promised s (sym e)
 

@@ -7,7 +7,7 @@ use native.Mathlib.Omega.{arith}
 use native.Mathlib.Numerals.{add-one}
 use native.Mathlib.Nat.{le_refl}
 use borrow.Author.Tests.{eq-eqb, ne_eqb, not-true, not-false}
-use lib.ListN.{length, get_or, set, length-set, replicate}
+use lib.ListN.{length, get_or, set, length-set}
 use lib.Seq.{get_or-set_same, get_or-set_other}
 use lib.Dec.{eqb}
 use native.Mathlib.Decide.{ℕ_discrete}
@@ -20,7 +20,7 @@ use Rattle.encoding.specs.Checked.{Recorded, chains_fit}
 use Rattle.reader.specs.Marks.{fresh, marked}
 use Rattle.lts.proofs.Lists.{split, every_map}
 use Rattle.reader.proofs.Lowest.{lowest-all}
-use Rattle.encoding.proofs.Chains.{Below, reached-below, chain-all, transition-known, zeros-long}
+use Rattle.encoding.proofs.Chains.{Below, reached-below, chain-all, transition-known}
 
 -- ## Marks along a list: what is left to be marked
 pub record Rest (v : ℕ) (m₀ l₀ m l : List ℕ) : Type 0 where
@@ -219,7 +219,3 @@ module _ (s : List ℕ) (h : Header) (g : Recorded s h) (p : ℕ) (l : p < h.sta
         rw (e, marked-length) room,
         λ i. rw e (marked-bound (p + 1) m _ stamp-inside (λ y. let z = old y in omega (arith, z)) i),
       )
-
--- an array of zeros has room for as much as its length
-pub zeros-room : (n k : ℕ) → k ≤ n → k ≤ length (replicate {A = ℕ} n 0)
-zeros-room n k l = rw (zeros-long n) l

@@ -11,12 +11,10 @@ use Rattle.lts.specs.declared.Refusal.{Refusal}
 use Rattle.lts.specs.declared.Refusal.TheVariants.{Unreached, ReachedTwice}
 use Rattle.lts.specs.Refusal.{refusal_number, refusal_record}
 use Rattle.lts.specs.Bounded.{all_below, lowest}
-use Rattle.lts.specs.Rule.{Nothing, First, broken, Reply, refused}
+use Rattle.lts.specs.Rule.{Nothing, First, broken, Reply, refused, Answer}
 use Rattle.lts.proofs.Rule.{when-broken, when-kept, finding, at_or_after, past, never, numbered, no_record}
 use Rattle.lts.proofs.Below.{T_true, true-T, clash, all-at, all-cong, lowest-at, lowest-before, lowest-some}
 use Rattle.encoding.specs.declared.Header.{Header}
-use Rattle.encoding.specs.declared.Reading.{Reading}
-use Rattle.encoding.specs.declared.Reading.TheVariants.{Readable, Refused}
 use Rattle.encoding.specs.Records.{header_of}
 use Rattle.encoding.specs.Labels.{labels_fit}
 use Rattle.encoding.specs.Checked.{Recorded}
@@ -28,6 +26,7 @@ use Rattle.encoding.proofs.Naming.{named-iff, none-twice-distinct}
 use Rattle.encoding.proofs.Reader.{in-range, sheet-passed, kept-readable, kept-chains}
 use Rattle.encoding.proofs.Laws.{denoted}
 use Rattle.reader.proofs.Labels.{well-named, misnamed-by}
+use Rattle.std.specs.Prelude.{Ok, Err}
 
 -- ## The lowest record of which a test holds
 module _ (h : Header) (f : ℕ → Bool) (Fault Sound : ℕ → Type 0) where
@@ -183,11 +182,11 @@ module _ (s : List ℕ) where
       answers = λ e. (goes e, denoted s h (sym (sheet-passed s refl e)));
     }
 
-pub read-promised : (s : List ℕ) {r : Reading} → r ≡ read_encoding s → ReadPromise s (reading_reply r)
+pub read-promised : (s : List ℕ) {r : (Answer Header)} → r ≡ read_encoding s → ReadPromise s (reading_reply r)
 unfolding read_encoding reading_reply
 read-promised s {r} is = promised s
-    (λ q e. ap reading_reply (when-broken (sheet_rules s) Refused (Readable (header_of s)) (sym is) e))
-    (λ e. ap reading_reply (when-kept (sheet_rules s) Refused (Readable (header_of s)) (sym is) e))
+    (λ q e. ap reading_reply (when-broken (sheet_rules s) Err (Ok (header_of s)) (sym is) e))
+    (λ e. ap reading_reply (when-kept (sheet_rules s) Err (Ok (header_of s)) (sym is) e))
 
-pub read_meets : (s : List ℕ) {r : Reading} → r ≡ read_encoding s → (r ≡ read_encoding s) × ReadPromise s (reading_reply r)
+pub read_meets : (s : List ℕ) {r : (Answer Header)} → r ≡ read_encoding s → (r ≡ read_encoding s) × ReadPromise s (reading_reply r)
 read_meets s e = (e, read-promised s e)

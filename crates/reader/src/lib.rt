@@ -28,15 +28,12 @@ fn named_fit(s: &[u8], h: encoding::Header) -> bool
     ensures { result ≡ labels_fit s.now h }
 {
     let mut index = [0u64; 512];
-    let m = h.actions;
-    let mut i = 0;
-    while i < m {
+    for i in 0..h.actions {
         let label = encoding::label(s, h, i + 1);
         if !fits_anew(&index, label) {
             return false;
         }
         labels::add_label(&mut index, i, label);
-        i += 1;
     }
     true
 }
@@ -73,15 +70,7 @@ fn states_fit(s: &[u8], h: encoding::Header) -> bool
     requires { Sized s.now h }
     ensures { result ≡ states_fit s.now h }
 {
-    let n = h.states;
-    let mut p = 0;
-    while p < n {
-        if !state_fits(s, h, p) {
-            return false;
-        }
-        p += 1;
-    }
-    true
+    (0..h.states).all(|p| state_fits(s, h, p))
 }
 
 // Rule 4, over all transition records.
@@ -89,15 +78,7 @@ fn transitions_fit(s: &[u8], h: encoding::Header) -> bool
     requires { Sized s.now h }
     ensures { result ≡ transitions_fit s.now h }
 {
-    let k = h.transitions;
-    let mut i = 0;
-    while i < k {
-        if !transition_fits(s, h, i + 1) {
-            return false;
-        }
-        i += 1;
-    }
-    true
+    (0..h.transitions).all(|i| transition_fits(s, h, i + 1))
 }
 
 // Marks the records of state p's chain; false where one is marked already. The chain is followed for at most one record
@@ -108,8 +89,7 @@ fn mark_chain(s: &[u8], h: encoding::Header, p: usize, seen: &mut [u8; 1025]) ->
     ensures seen_after { result ≡ true → seen.new ≡ marked 1 seen.old (chain s.now h p) }
 {
     let mut j = encoding::first_of(s, h, p);
-    let mut left = h.transitions + 1;
-    while left > 0 {
+    for _ in 0..h.transitions + 1 {
         if j == 0 {
             return true;
         }
@@ -118,7 +98,6 @@ fn mark_chain(s: &[u8], h: encoding::Header, p: usize, seen: &mut [u8; 1025]) ->
         }
         seen[j] = 1;
         j = encoding::known_transition(s, h, j).next;
-        left -= 1;
     }
     true
 }
@@ -129,13 +108,10 @@ fn mark_chains(s: &[u8], h: encoding::Header, seen: &mut [u8; 1025]) -> bool
     ensures value { result ≡ fresh 1 seen.old (reached s.now h h.states) }
     ensures seen_after { result ≡ true → seen.new ≡ marked 1 seen.old (reached s.now h h.states) }
 {
-    let n = h.states;
-    let mut p = 0;
-    while p < n {
+    for p in 0..h.states {
         if !mark_chain(s, h, p, seen) {
             return false;
         }
-        p += 1;
     }
     true
 }
@@ -145,12 +121,10 @@ fn lowest_unmarked(k: usize, seen: &[u8; 1025]) -> usize
     requires { k ≤ 1024 }
     ensures { result ≡ lowest k (λ i. not (eqb (get_or seen.now (i + 1) 0) 1)) }
 {
-    let mut i = 0;
-    while i < k {
+    for i in 0..k {
         if seen[i + 1] != 1 {
             return i;
         }
-        i += 1;
     }
     k
 }
@@ -189,11 +163,8 @@ fn lowest_unreached(s: &[u8], h: encoding::Header) -> usize
     ensures { result ≡ lowest h.transitions (λ i. not (on_some_chain s.now h (i + 1))) }
 {
     let mut seen = [0u8; 1025];
-    let n = h.states;
-    let mut p = 0;
-    while p < n {
+    for p in 0..h.states {
         reach_chain(s, h, p, &mut seen);
-        p += 1;
     }
     lowest_unmarked(h.transitions, &seen)
 }
@@ -203,12 +174,8 @@ fn count_firsts(s: &[u8], h: encoding::Header, named: &mut [u16; 1025])
     requires { (Recorded s.now h) × (length named.old ≡ 1025) × ((j : ℕ) → get_or named.old j 0 ≤ 256) }
     ensures { Counted (list_below h.states (λ p. (state_record s.now h p).first)) named.old named.new }
 {
-    let n = h.states;
-    let mut p = 0;
-    while p < n {
-        let j = encoding::first_of(s, h, p);
-        named[j] += 1;
-        p += 1;
+    for p in 0..h.states {
+        named[encoding::first_of(s, h, p)] += 1;
     }
 }
 
@@ -217,12 +184,8 @@ fn count_nexts(s: &[u8], h: encoding::Header, named: &mut [u16; 1025])
     requires { (Recorded s.now h) × (length named.old ≡ 1025) × ((j : ℕ) → get_or named.old j 0 ≤ 256) }
     ensures { Counted (list_below h.transitions (λ i. (transition_record s.now h (i + 1)).next)) named.old named.new }
 {
-    let k = h.transitions;
-    let mut i = 0;
-    while i < k {
-        let j = encoding::known_transition(s, h, i + 1).next;
-        named[j] += 1;
-        i += 1;
+    for i in 0..h.transitions {
+        named[encoding::known_transition(s, h, i + 1).next] += 1;
     }
 }
 
@@ -231,12 +194,10 @@ fn lowest_counted_twice(k: usize, named: &[u16; 1025]) -> usize
     requires { k ≤ 1024 }
     ensures { result ≡ lowest k (λ i. leb 2 (get_or named.now (i + 1) 0)) }
 {
-    let mut i = 0;
-    while i < k {
+    for i in 0..k {
         if named[i + 1] >= 2 {
             return i;
         }
-        i += 1;
     }
     k
 }
@@ -275,8 +236,7 @@ fn stamp_chain(s: &[u8], h: encoding::Header, p: usize, stamps: &mut [u16]) -> b
 {
     let stamp = (p + 1) as u16;
     let mut j = encoding::first_of(s, h, p);
-    let mut left = h.transitions + 1;
-    while left > 0 {
+    for _ in 0..h.transitions + 1 {
         if j == 0 {
             return true;
         }
@@ -287,7 +247,6 @@ fn stamp_chain(s: &[u8], h: encoding::Header, p: usize, stamps: &mut [u16]) -> b
         }
         stamps[at] = stamp;
         j = r.next;
-        left -= 1;
     }
     true
 }
@@ -297,32 +256,20 @@ fn successors_stamped(s: &[u8], h: encoding::Header, stamps: &mut [u16]) -> bool
     requires { (Recorded s.now h) × (256 * (h.actions + 1) ≤ length stamps.old) × ((i : ℕ) → get_or stamps.old i 0 ≡ 0) }
     ensures { result ≡ successors_fit s.now h }
 {
-    let n = h.states;
-    let mut p = 0;
-    while p < n {
+    for p in 0..h.states {
         if !stamp_chain(s, h, p, stamps) {
             return false;
         }
-        p += 1;
     }
     true
 }
 
-// Rule 6, with at most 4 actions: a small array is cleared sooner.
-fn successors_few(s: &[u8], h: encoding::Header) -> bool
-    requires { (Recorded s.now h) × (h.actions ≤ 4) }
+// Rule 6, with an array of this size: a small one is cleared sooner.
+fn successors_in<const SIZE: usize>(s: &[u8], h: encoding::Header) -> bool
+    requires { (Recorded s.now h) × (256 * (h.actions + 1) ≤ SIZE) × (SIZE ≤ 16640) }
     ensures { result ≡ successors_fit s.now h }
 {
-    let mut stamps = [0u16; 1280];
-    successors_stamped(s, h, &mut stamps)
-}
-
-// Rule 6, with any actions.
-fn successors_many(s: &[u8], h: encoding::Header) -> bool
-    requires { Recorded s.now h }
-    ensures { result ≡ successors_fit s.now h }
-{
-    let mut stamps = [0u16; 16640];
+    let mut stamps = [0u16; SIZE];
     successors_stamped(s, h, &mut stamps)
 }
 
@@ -332,40 +279,40 @@ fn successors_fit(s: &[u8], h: encoding::Header) -> bool
     ensures { result ≡ successors_fit s.now h }
 {
     if h.actions <= 4 {
-        return successors_few(s, h);
+        return successors_in::<1280>(s, h);
     }
-    successors_many(s, h)
+    successors_in::<16640>(s, h)
 }
 
 // Reads an encoding: its header, or the first rule that it breaks.
-pub fn read_encoding(s: &[u8]) -> encoding::Reading
+pub fn read_encoding(s: &[u8]) -> Result<encoding::Header, lts::Refusal>
     ensures value { result ≡ read_encoding s.now }
     ensures read_promise { ReadPromise s.now (reading_reply result) }
 {
     if s.len() < encoding::Header::BYTES {
-        return encoding::Reading::Refused(lts::Refusal::Length);
+        return Err(lts::Refusal::Length);
     }
     let h = encoding::Header::read(s);
     if !h.in_range() {
-        return encoding::Reading::Refused(lts::Refusal::Range);
+        return Err(lts::Refusal::Range);
     }
     if s.len() != h.length() {
-        return encoding::Reading::Refused(lts::Refusal::Length);
+        return Err(lts::Refusal::Length);
     }
     if !labels_fit(s, h) {
-        return encoding::Reading::Refused(lts::Refusal::Label);
+        return Err(lts::Refusal::Label);
     }
     if !states_fit(s, h) {
-        return encoding::Reading::Refused(lts::Refusal::StateRecord);
+        return Err(lts::Refusal::StateRecord);
     }
     if !transitions_fit(s, h) {
-        return encoding::Reading::Refused(lts::Refusal::TransitionRecord);
+        return Err(lts::Refusal::TransitionRecord);
     }
     if !chains_fit(s, h) {
-        return encoding::Reading::Refused(chain_refusal(s, h));
+        return Err(chain_refusal(s, h));
     }
     if !successors_fit(s, h) {
-        return encoding::Reading::Refused(lts::Refusal::Repeated);
+        return Err(lts::Refusal::Repeated);
     }
-    encoding::Reading::Readable(h)
+    Ok(h)
 }

@@ -248,12 +248,9 @@ module _ (related blocks : List ℕ) {t places rows : List ℕ} {actions : ℕ} 
 
   module _ {shared : Set} {i left : ℕ} {related' blocks' touched : List ℕ} (now : Going t Rem Hits actions shared related blocks i left related' blocks' touched) where
     -- the next action
-    module _ (some : left ≡ 0 → ⊥) where
-      abbrev j : ℕ
-      j = count_trailing_zeros 64 left
-
+    module _ {j left' : ℕ} (step : (left ≡ 0 → ⊥) × (j ≡ count_trailing_zeros 64 left) × (left' ≡ bit_and left (left - 1))) where
       next : Stepped actions i left j
-      next = rest-next actions i left now.rest some
+      next = rw step.1 (rest-next actions i left now.rest step.0)
 
       pub next-most : j + 1 ≤ actions_of t
       next-most = ⊎_elim (λ (l : j < actions_of t). omega (arith, l)) (λ (l : actions_of t ≤ j). absurd (clash next.member (fixed.no_more j l next.below))) (lt-or-ge j (actions_of t))
@@ -263,9 +260,9 @@ module _ (related blocks : List ℕ) {t places rows : List ℕ} {actions : ℕ} 
           (λ x l h. fixed.idle x (omega (arith, h, next-most)) (next.none x l h)) now.finer
 
       pub going_next : {related'' blocks'' changed touched' : List ℕ} → Acted (Rem (j + 1)) (Hits (j + 1)) related' blocks' related'' blocks'' changed → Parted (set_at blocks'') shared
-          → touched' ≡ row_of 4 (λ q. in_row touched q || in_row changed q) → Going t Rem Hits actions shared related blocks (j + 1) (bit_and left (left - 1)) related'' blocks'' touched'
+          → touched' ≡ row_of 4 (λ q. in_row touched q || in_row changed q) → Going t Rem Hits actions shared related blocks (j + 1) left' related'' blocks'' touched'
       going_next {related''} {blocks''} {changed} {touched'} act parts join = record {
-        rest = next.rest;
+        rest = rw step.2 next.rest;
         most = next-most;
         related-is = more.0;
         blocks_is = more.1;

@@ -43,14 +43,11 @@ fn refine_action(
         related.old blocks.old related.new blocks.new result }
     ensures parted { Parted (set_at blocks.new) (in_row shared) }
 {
-    let inside = turn.inside;
-    let outside = turn.outside;
-    let rem = adjacency::removed(places, rows, a, inside, outside, turn.whole);
+    let rem = adjacency::removed(places, rows, a, turn.inside, turn.outside, turn.whole);
     if !sets::any(rem) {
         return [0u64; 4];
     }
-    let members = turn.members;
-    let hits = adjacency::sources_into(places, rows, a, members);
+    let hits = adjacency::sources_into(places, rows, a, turn.members);
     splitting::refine_by(rem, hits, shared, related, blocks)
 }
 
@@ -73,11 +70,9 @@ fn refine_actions(
     ensures parted { Parted (set_at blocks.new) (in_row shared) }
 {
     let mut touched = [0u64; 4];
-    let mut left = turn.actions;
-    while left != 0 {
-        let a = u64::trailing_zeros(left) as usize + 1;
-        left = left & (left - 1);
-        let changed = refine_action(places, rows, a, turn, shared, related, blocks);
+    for i in rows::ones(turn.actions) {
+        let changed = refine_action(places, rows, i + 1, turn, shared, related, blocks);
+        // By a second name: `touched = sets::join(..)`, a call's array put into a live one, has no proof yet (tried).
         let next = sets::join(touched, changed);
         touched = next;
     }
@@ -137,11 +132,11 @@ fn turn_of(
     let whole = is_whole(seen, all, inside);
     let actions = actions_of(rows, shared, b, watched(inside, outside, whole));
     Turn {
-        members: members,
-        inside: inside,
-        outside: outside,
-        actions: actions,
-        whole: whole,
+        members,
+        inside,
+        outside,
+        actions,
+        whole,
     }
 }
 
@@ -163,11 +158,9 @@ fn refine_step(
         related.new viewed.new blocks.new result }
 {
     let turn = turn_of(rows, all, shared, b, related, viewed, blocks);
-    let members = turn.members;
-    let inside = turn.inside;
-    partition::set_rows(viewed, members, inside);
+    partition::set_rows(viewed, turn.members, turn.inside);
     let touched = refine_actions(places, rows, turn, shared, related, blocks);
-    sets::meet(sets::join(members, touched), all)
+    sets::meet(sets::join(turn.members, touched), all)
 }
 
 // The whole run, from K, V and the blocks at the beginning to those at its end; the number of steps made.
@@ -197,6 +190,7 @@ fn run(
         let b = partition::next_block(&pending, schedule, steps);
         let touched = refine_step(places, rows, all, shared, b, related, viewed, blocks);
         let single = partition::single_rows(blocks, sets::meet(touched, shared));
+        // By a second name, as in `refine_actions`.
         let rest = sets::minus(shared, single);
         shared = rest;
         partition::update_pending(related, viewed, blocks, shared, touched, &mut pending);
@@ -212,13 +206,10 @@ fn keep_enabled(table: &transitions::Table, rows: &[u64], related: &mut [u64])
         related.new ≡ sets_of 256 (λ p q. set_at related.old p q
         && all_below (count_of t) (λ i. eqb (source_at t i) p ⇒ set_at rows.now (63 + 2 * action_at t i) q)) }
 {
-    let k = transitions::count(table);
-    let mut i = 0;
-    while i < k {
+    for i in 0..transitions::count(table) {
         let p = transitions::source(table, i);
         let able = adjacency::enabled(rows, transitions::action(table, i));
         sets::put(related, p, sets::meet(sets::at(related, p), able));
-        i += 1;
     }
 }
 
@@ -290,8 +281,8 @@ fn refine_in(
     steps
 }
 
-// The run with room for every table.
-fn refine_large(
+// The run on a table that the arrays have room for: small arrays are cleared sooner.
+fn refine_sized<const PLACES: usize, const ROWS: usize>(
     table: &transitions::Table,
     start: &[u64],
     schedule: &[u16],
@@ -301,71 +292,16 @@ fn refine_large(
     requires formed { Formed table.now × Start (states_of table.now) start.now }
     requires fact { let words = states_of table.now * row_words (states_of table.now) in
         (length related.old ≡ words) × (length blocks.old ≡ words) }
+    requires table_in_bounds { (512 * (actions_of table.now + 1) ≤ PLACES)
+        × ((65 + 2 * actions_of table.now + 2 * count_of table.now) * 4 ≤ ROWS) }
+    requires sizes { (PLACES ≤ 33280) × (ROWS ≤ 8964) }
     ensures { let t = table.now in
         let run = coarsest (table_lts t) (relation_of (states_of t) start.now) schedule.now in
         (result ≡ run.steps) × (related.new ≡ matrix_of (states_of t) run.final.related)
         × (blocks.new ≡ matrix_of (states_of t) (block run.final.related)) }
 {
-    let mut places = [0u16; 33280];
-    let mut rows = [0u64; 8964];
-    refine_in(
-        table,
-        start,
-        schedule,
-        related,
-        blocks,
-        &mut places,
-        &mut rows,
-    )
-}
-
-// The run on a table of at most 2 actions and 16 transitions: small arrays are cleared sooner.
-fn refine_small(
-    table: &transitions::Table,
-    start: &[u64],
-    schedule: &[u16],
-    related: &mut [u64],
-    blocks: &mut [u64],
-) -> usize
-    requires formed { Formed table.now × Start (states_of table.now) start.now × (actions_of table.now ≤ 2) × (count_of table.now ≤ 16) }
-    requires fact { let words = states_of table.now * row_words (states_of table.now) in
-        (length related.old ≡ words) × (length blocks.old ≡ words) }
-    ensures { let t = table.now in
-        let run = coarsest (table_lts t) (relation_of (states_of t) start.now) schedule.now in
-        (result ≡ run.steps) × (related.new ≡ matrix_of (states_of t) run.final.related)
-        × (blocks.new ≡ matrix_of (states_of t) (block run.final.related)) }
-{
-    let mut places = [0u16; 1536];
-    let mut rows = [0u64; 404];
-    refine_in(
-        table,
-        start,
-        schedule,
-        related,
-        blocks,
-        &mut places,
-        &mut rows,
-    )
-}
-
-// The same for at most 8 actions and 128 transitions.
-fn refine_medium(
-    table: &transitions::Table,
-    start: &[u64],
-    schedule: &[u16],
-    related: &mut [u64],
-    blocks: &mut [u64],
-) -> usize
-    requires formed { Formed table.now × Start (states_of table.now) start.now × (actions_of table.now ≤ 8) × (count_of table.now ≤ 128) }
-    requires fact { let words = states_of table.now * row_words (states_of table.now) in
-        (length related.old ≡ words) × (length blocks.old ≡ words) }
-    ensures { let t = table.now in
-        let run = coarsest (table_lts t) (relation_of (states_of t) start.now) schedule.now in
-        (result ≡ run.steps) × (related.new ≡ matrix_of (states_of t) run.final.related)
-        × (blocks.new ≡ matrix_of (states_of t) (block run.final.related)) }
-{
-    let mut places = [0u16; 4608];
-    let mut rows = [0u64; 1348];
+    let mut places = [0u16; PLACES];
+    let mut rows = [0u64; ROWS];
     refine_in(
         table,
         start,
@@ -400,10 +336,10 @@ pub fn refine_all(
     let m = transitions::actions(table);
     let k = transitions::count(table);
     if (m <= 2) & (k <= 16) {
-        return refine_small(table, start, schedule, related, blocks);
+        return refine_sized::<1536, 404>(table, start, schedule, related, blocks);
     }
     if (m <= 8) & (k <= 128) {
-        return refine_medium(table, start, schedule, related, blocks);
+        return refine_sized::<4608, 1348>(table, start, schedule, related, blocks);
     }
-    refine_large(table, start, schedule, related, blocks)
+    refine_sized::<33280, 8964>(table, start, schedule, related, blocks)
 }

@@ -6,10 +6,10 @@ use lib.Dec.{leb}
 use Rattle.lts.specs.Bounded.{◌⇒◌, all_below, sum_below, count_below, list_below}
 use Rattle.lts.specs.Rule.{broken, checked, check}
 use Rattle.lts.specs.declared.Refusal.TheVariants.{Grid, NotReflexive, NotTransitive}
-use Rattle.lts.specs.declared.Checked.TheVariants.{Passed, Refused}
 use Rattle.rows.specs.Rows.{bit, in_row, word_of, word_at}
 use Rattle.relation.specs.Matrix.{in_matrix, matrix_of, relation_of, pair_count}
 use Rattle.relation.specs.Check.{is_matrix, reflexive_below, transitive_below, transitive_at, transitive_pair, start_rules}
+use Rattle.std.specs.Prelude.{Ok, Err}
 
 -- the set of state 1 alone
 terminating : List ℕ
@@ -25,23 +25,23 @@ unfolding pair_count count_below sum_below in_matrix bit
 pairs = refl
 
 -- bit 3 is no state's; state 0 is not related to itself; 0 to 1 and 1 to 2, but not 0 to 2
-preorder : check (start_rules 3 (7 ∷ 2 ∷ 7 ∷ [])) ≡ Passed
+preorder : check (start_rules 3 (7 ∷ 2 ∷ 7 ∷ [])) ≡ Ok tt
 unfolding check start_rules broken checked is_matrix reflexive_below transitive_below transitive_at transitive_pair all_below in_matrix bit
 preorder = refl
 
-stray : check (start_rules 3 (7 ∷ 2 ∷ 15 ∷ [])) ≡ Refused Grid
+stray : check (start_rules 3 (7 ∷ 2 ∷ 15 ∷ [])) ≡ Err Grid
 unfolding check start_rules broken checked is_matrix reflexive_below transitive_below transitive_at transitive_pair all_below in_matrix bit
 stray = refl
 
-short : check (start_rules 3 (7 ∷ 2 ∷ [])) ≡ Refused Grid
+short : check (start_rules 3 (7 ∷ 2 ∷ [])) ≡ Err Grid
 unfolding check start_rules broken checked is_matrix reflexive_below transitive_below transitive_at transitive_pair all_below in_matrix bit
 short = refl
 
-irreflexive : check (start_rules 3 (6 ∷ 2 ∷ 7 ∷ [])) ≡ Refused NotReflexive
+irreflexive : check (start_rules 3 (6 ∷ 2 ∷ 7 ∷ [])) ≡ Err NotReflexive
 unfolding check start_rules broken checked is_matrix reflexive_below transitive_below transitive_at transitive_pair all_below in_matrix bit
 irreflexive = refl
 
-intransitive : check (start_rules 3 (3 ∷ 6 ∷ 4 ∷ [])) ≡ Refused NotTransitive
+intransitive : check (start_rules 3 (3 ∷ 6 ∷ 4 ∷ [])) ≡ Err NotTransitive
 unfolding check start_rules broken checked is_matrix reflexive_below transitive_below transitive_at transitive_pair all_below in_matrix bit
 intransitive = refl
 

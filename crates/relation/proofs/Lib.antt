@@ -1,5 +1,6 @@
 pub mod Matrices
 pub mod Rows
+pub mod Places
 pub mod Counts
 pub mod Checks
 pub mod Transitivity

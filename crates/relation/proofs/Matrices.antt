@@ -117,8 +117,8 @@ matrix_of-cong n R S same =
 -- ---- a part from a to the end that was lent, `&mut xs[a..]`, and came back as ys
 
 -- row p of the matrix, as a part that starts at its first word
-pub in_row-part : (n p : ℕ) (g : List ℕ) (q : ℕ) → in_row (take (length g - p * row_words n) (drop (p * row_words n) g)) q ≡ relation_of n g p q
-in_row-part n p g q = ap (λ (l : List ℕ). in_row l q) (tail-part (p * row_words n) g) ∙ in_row-drop (row_words n) g p q
+pub in_row-part : (w p : ℕ) (g : List ℕ) (q : ℕ) → in_row (take (length g - p * w) (drop (p * w) g)) q ≡ in_matrix w g p q
+in_row-part w p g q = ap (λ (l : List ℕ). in_row l q) (tail-part (p * w) g) ∙ in_row-drop w g p q
 
 -- row p lies within the matrix
 pub row_room : (n w : ℕ) {p : ℕ} → p < n → p * w + w ≤ n * w
@@ -278,7 +278,7 @@ row-zipped n p g β M none ok words hp {w} e ys last =
     ∙ matrix_of-cong n _ _ (λ t q ht hq. ap (λ (b : Bool). cond (eqb t p) (β b (M q)) (relation_of n g t q)) (part q))
   where
     part : (q : ℕ) → in_row (take (length g - p * w) (drop (p * w) g)) q ≡ relation_of n g p q
-    part q = ap (λ (k : ℕ). in_row (take (length g - p * k) (drop (p * k) g)) q) e ∙ in_row-part n p g q
+    part q = ap (λ (k : ℕ). in_row (take (length g - p * k) (drop (p * k) g)) q) e ∙ in_row-part (row_words n) p g q
 
 -- the row p that was set, and any other
 pub set_here : (p : ℕ) (S : ℕ → Bool) (R : ℕ → ℕ → Bool) (q : ℕ) → set_row p S R p q ≡ S q

@@ -22,7 +22,7 @@ pub fn has(grid: &[u64], w: usize, p: usize, q: usize) -> bool
     requires { p * w + q / 64 < length grid.now }
     ensures { result ≡ in_matrix w grid.now p q }
 {
-    (grid[p * w + q / 64] >> (q % 64)) % 2 == 1
+    rows::contains(&grid[p * w..], q)
 }
 
 // Whether the pair (p, q) is in the matrix on n states.
@@ -59,13 +59,7 @@ pub fn count_pairs(grid: &[u64], n: usize) -> usize
     requires { Matrix n grid.now × (n ≤ 256) }
     ensures { result ≡ pair_count n (relation_of n grid.now) }
 {
-    let mut total: usize = 0;
-    let mut j = 0;
-    while j < grid.len() {
-        total += u64::count_ones(grid[j]) as usize;
-        j += 1;
-    }
-    total
+    grid.iter().map(|x| x.count_ones() as usize).sum()
 }
 
 // Copies a whole matrix.
@@ -73,11 +67,7 @@ pub fn copy_matrix(grid: &mut [u64], from: &[u64])
     requires { length from.now ≡ length grid.old }
     ensures { grid.new ≡ from.now }
 {
-    let mut j = 0;
-    while j < from.len() {
-        grid[j] = from[j];
-        j += 1;
-    }
+    grid.copy_from_slice(from);
 }
 
 // Puts the set that `row` holds in the place of row p.
@@ -133,17 +123,7 @@ pub fn is_matrix(grid: &[u64], n: usize) -> bool
     requires { n ≤ 256 }
     ensures { result ≡ is_matrix n grid.now }
 {
-    if grid.len() != matrix_words(n) {
-        return false;
-    }
-    let mut p = 0;
-    while p < n {
-        if !row_formed(grid, n, p) {
-            return false;
-        }
-        p += 1;
-    }
-    true
+    grid.len() == matrix_words(n) && (0..n).all(|p| row_formed(grid, n, p))
 }
 
 // Whether the pair (p, p) is in the matrix for each state p.
@@ -151,14 +131,7 @@ fn is_reflexive(grid: &[u64], n: usize) -> bool
     requires { Matrix n grid.now × (n ≤ 256) }
     ensures { result ≡ reflexive_below n (relation_of n grid.now) }
 {
-    let mut p = 0;
-    while p < n {
-        if !relates(grid, n, p, p) {
-            return false;
-        }
-        p += 1;
-    }
-    true
+    (0..n).all(|p| relates(grid, n, p, p))
 }
 
 // Whether p, which is related to q, is related to each state that q is related to.
@@ -223,9 +196,7 @@ fn is_transitive(grid: &[u64], n: usize) -> bool
     requires { Matrix n grid.now × (n ≤ 256) }
     ensures { result ≡ transitive_below n (relation_of n grid.now) }
 {
-    let mut p = n;
-    while 0 < p {
-        p -= 1;
+    for p in (0..n).rev() {
         if !transitive_at(grid, n, p) {
             return false;
         }
@@ -234,20 +205,20 @@ fn is_transitive(grid: &[u64], n: usize) -> bool
 }
 
 // Whether the words are a matrix on n states, and a preorder: refusals 8, 9 and 10.
-pub fn check_preorder(grid: &[u64], n: usize) -> lts::Checked
+pub fn check_preorder(grid: &[u64], n: usize) -> Result<(), lts::Refusal>
     requires { n ≤ 256 }
     ensures { result ≡ check (start_rules n grid.now) }
 {
     if !is_matrix(grid, n) {
-        return lts::Checked::Refused(lts::Refusal::Grid);
+        return Err(lts::Refusal::Grid);
     }
     if !is_reflexive(grid, n) {
-        return lts::Checked::Refused(lts::Refusal::NotReflexive);
+        return Err(lts::Refusal::NotReflexive);
     }
     if !is_transitive(grid, n) {
-        return lts::Checked::Refused(lts::Refusal::NotTransitive);
+        return Err(lts::Refusal::NotTransitive);
     }
-    lts::Checked::Passed
+    Ok(())
 }
 
 // Writes the relation of all pairs.
@@ -257,11 +228,9 @@ pub fn write_all_pairs(n: usize, grid: &mut [u64])
 {
     let w = rows::row_words(n);
     let all = rows::states_below(n);
-    let mut p = 0;
-    while p < n {
+    for p in 0..n {
         let at = p * w;
         rows::row_copy(&mut grid[at..], &all, w);
-        p += 1;
     }
 }
 

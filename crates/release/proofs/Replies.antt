@@ -1,24 +1,21 @@
 -- The replies of the calls, packed and unpacked again, and what an export says of its result.
-use Prim.Native.Nat.{ℕ, ◌+◌, ◌*◌, ◌<◌}
+use Prim.Native.Nat.{ℕ, ◌+◌, ◌*◌, ◌^◌, ◌<◌, ◌≤◌}
 use native.Mathlib.Omega.{arith}
 use mathlib.Core.Path.{◌≡◌, sym, ap, subst, ◌∙◌}
+use mathlib.Core.Bool.{Bool, true, false, cond}
 use mathlib.Core.List.{List, [], ◌∷◌}
+use Rattle.std.specs.Prelude.{Ok, Err}
+use Rattle.std.specs.Int.{from_bool}
 use Rattle.lts.specs.declared.Refusal.{Refusal}
 use Rattle.lts.specs.Refusal.{refusal_number, refusal_record}
-use Rattle.lts.specs.declared.Checked.{Checked}
-use Rattle.lts.specs.declared.Checked.TheVariants.{Passed, Refused as Stopped}
-use Rattle.lts.specs.Rule.{Reply, refused, given, checked_reply}
-use Rattle.simulation.specs.declared.Tested.{Tested}
-use Rattle.simulation.specs.declared.Tested.TheVariants.{Yes, No, Refused as Untested}
+use Rattle.lts.specs.Rule.{Reply, refused, given, checked_reply, Answer}
 use Rattle.simulation.specs.Calls.{simulation_reply}
-use Rattle.game.specs.declared.Played.{Played}
-use Rattle.game.specs.declared.Played.TheVariants.{Won, NotWon, Refused as Unplayed}
 use Rattle.game.specs.Play.{play_reply}
-use Rattle.comparison.specs.declared.Compared.{Compared}
-use Rattle.comparison.specs.declared.Compared.TheVariants.{Yes as Simulated, No as Unsimulated, Refused as Uncompared}
+use Rattle.comparison.specs.declared.Comparison.{Comparison}
 use Rattle.comparison.specs.Call.{compare_reply}
+use Rattle.disjoint_union.specs.Join.{join_reply}
+use Rattle.strategy.specs.Write.{write_reply}
 use Rattle.coarsest.specs.declared.Counts.{Counts}
-use Rattle.coarsest.specs.declared.Answer.TheVariants.{Done}
 use Rattle.coarsest.specs.Call.{coarsest_reply}
 use Rattle.coarsest_bytes.specs.Carried.{Small}
 use Rattle.release.specs.Packed.{placed, packed, unpacked, coarsest_places, compare_places, check_places, one_place, no_place}
@@ -62,36 +59,44 @@ refused-packed [] r = omega arith
 refused-packed (p ∷ places) r = omega arith
 
 -- ## Each answer's reply
-pub checked-kept : (a : Checked) → Kept no_place (checked_reply a)
+pub checked-kept : (a : Answer (Unit {0})) → Kept no_place (checked_reply a)
 unfolding checked_reply
-checked-kept Passed = unpack-none
-checked-kept (Stopped r) = unpack-refused no_place r
+checked-kept (Ok tt) = unpack-none
+checked-kept (Err r) = unpack-refused no_place r
 
-pub tested-kept : (a : Tested) → Kept one_place (simulation_reply a)
+pub tested-kept : (a : Answer Bool) → Kept one_place (simulation_reply a)
 unfolding simulation_reply
-tested-kept Yes = unpack-given (last 8 1)
-tested-kept No = unpack-given (last 8 0)
-tested-kept (Untested r) = unpack-refused one_place r
+tested-kept (Ok b) = unpack-given (last 8 (cond b 1 0))
+tested-kept (Err r) = unpack-refused one_place r
 
-pub played-kept : (a : Played) → Kept one_place (play_reply a)
+pub played-kept : (a : Answer Bool) → Kept one_place (play_reply a)
 unfolding play_reply
-played-kept Won = unpack-given (last 8 1)
-played-kept NotWon = unpack-given (last 8 0)
-played-kept (Unplayed r) = unpack-refused one_place r
+played-kept (Ok b) = unpack-given (last 8 (cond b 1 0))
+played-kept (Err r) = unpack-refused one_place r
 
-pub compared-kept : (a : Compared) → Kept compare_places (compare_reply a)
+pub joined-kept : (a : Answer ℕ) → Kept one_place (join_reply a)
+unfolding join_reply
+joined-kept (Ok count) = unpack-given (last 8 count)
+joined-kept (Err r) = unpack-refused one_place r
+
+pub written-kept : (a : Answer ℕ) → Kept one_place (write_reply a)
+unfolding write_reply
+written-kept (Ok count) = unpack-given (last 8 count)
+written-kept (Err r) = unpack-refused one_place r
+
+bit-low : (b : Bool) → cond b 1 0 < 2 ^ 8
+bit-low true = omega arith
+bit-low false = omega arith
+
+pub compared-kept : (a : Answer Comparison) → Kept compare_places (compare_reply a)
 unfolding compare_reply
-compared-kept (Simulated steps) = unpack-given (more 8 8 1 [] (steps ∷ []) (omega arith) (last 16 steps))
-compared-kept (Unsimulated steps) = unpack-given (more 8 8 0 [] (steps ∷ []) (omega arith) (last 16 steps))
-compared-kept (Uncompared r) = unpack-refused compare_places r
+compared-kept (Ok c) = unpack-given (more 8 8 (cond c.related 1 0) [] (c.steps ∷ []) (bit-low c.related) (last 16 c.steps))
+compared-kept (Err r) = unpack-refused compare_places r
 
 pub check-kept : (p q depth : ℕ) → p < 65536 → q < 65536 → Kept check_places (given (p ∷ q ∷ depth ∷ []))
 check-kept p q depth l m = unpack-given (more 8 16 p (40 ∷ []) (q ∷ depth ∷ []) l (more 24 16 q [] (depth ∷ []) m (last 40 depth)))
 
-pub count_kept : (count : ℕ) → Kept one_place (given (count ∷ []))
-count_kept count = unpack-given (last 8 count)
-
-pub counts-kept : (c : Counts) → Small c → Kept coarsest_places (coarsest_reply (Done c))
+pub counts-kept : (c : Counts) → Small c → Kept coarsest_places (coarsest_reply (Ok c))
 unfolding coarsest_reply
 counts-kept c s =
     let a : c.steps < 65536 = omega (arith, s.steps) in
@@ -99,21 +104,28 @@ counts-kept c s =
     unpack-given (more 8 16 c.steps (48 ∷ []) (c.pairs ∷ c.blocks ∷ []) a (more 24 24 c.pairs [] (c.blocks ∷ []) b (last 48 c.blocks)))
 
 -- ## The numbers as the code has them
-pub counts-packed : (c : Counts) → 256 * c.steps + 16777216 * c.pairs + 281474976710656 * c.blocks ≡ packed coarsest_places (coarsest_reply (Done c))
+pub counts-packed : (c : Counts) → 256 * c.steps + 16777216 * c.pairs + 281474976710656 * c.blocks ≡ packed coarsest_places (coarsest_reply (Ok c))
 unfolding packed placed coarsest_reply
 counts-packed c = omega arith
-
-pub compared-packed : (value steps : ℕ) → 256 * value + 65536 * steps ≡ packed compare_places (given (value ∷ steps ∷ []))
-unfolding packed placed
-compared-packed value steps = omega arith
-
-pub no-packed : (steps : ℕ) → 65536 * steps ≡ packed compare_places (given (0 ∷ steps ∷ []))
-no-packed steps = omega (arith, compared-packed 0 steps)
-
-pub check-packed : (p q depth : ℕ) → 256 * p + 16777216 * q + 1099511627776 * depth ≡ packed check_places (given (p ∷ q ∷ depth ∷ []))
-unfolding packed placed
-check-packed p q depth = omega arith
 
 pub one-packed : (v : ℕ) → 256 * v ≡ packed one_place (given (v ∷ []))
 unfolding packed placed
 one-packed v = omega arith
+
+pub compared-packed : (b : Bool) (steps : ℕ) → 256 * from_bool b + 65536 * steps ≡ packed compare_places (given (cond b 1 0 ∷ steps ∷ []))
+unfolding packed placed
+compared-packed true steps = omega arith
+compared-packed false steps = omega arith
+
+-- at most 1
+pub bit-most : (b : Bool) {x : ℕ} → x ≡ from_bool b → x ≤ 1
+bit-most true e = omega (arith, e)
+bit-most false e = omega (arith, e)
+
+pub decided-packed : (b : Bool) → 256 * from_bool b ≡ packed one_place (given (cond b 1 0 ∷ []))
+decided-packed true = one-packed 1
+decided-packed false = one-packed 0
+
+pub check-packed : (p q depth : ℕ) → 256 * p + 16777216 * q + 1099511627776 * depth ≡ packed check_places (given (p ∷ q ∷ depth ∷ []))
+unfolding packed placed
+check-packed p q depth = omega arith

@@ -11,9 +11,7 @@ use lib.ListN.{length}
 use Rattle.lts.specs.System.{Rel, Lts}
 use Rattle.lts.specs.declared.Refusal.{Refusal}
 use Rattle.lts.specs.declared.Refusal.TheVariants.{Buffer}
-use Rattle.lts.specs.declared.Checked.{Checked}
-use Rattle.lts.specs.declared.Checked.TheVariants.{Passed, Refused}
-use Rattle.lts.specs.Rule.{Rule, Nothing, broken, Reply, refused, checked_reply}
+use Rattle.lts.specs.Rule.{Rule, Nothing, broken, Reply, refused, checked_reply, Answer}
 use Rattle.lts.proofs.Rule.{kept, both-kept, finding, refuses, passes, when-broken, when-kept, numbered}
 use Rattle.encoding.specs.Records.{header_of}
 use Rattle.encoding.specs.Encoding.{sheet_rules}
@@ -31,6 +29,7 @@ use Rattle.simulation.specs.Calls.{WriteStartOutcome, write_start_rules, write_s
 use Rattle.simulation.proofs.Starts.{StartMeans}
 use Rattle.simulation.proofs.Promise.{start-promised}
 use Rattle.release.specs.Starts.{start_on_bytes, StartBytesPromise}
+use Rattle.std.specs.Prelude.{Ok, Err}
 
 module _ (start : Lts → Rel) (s grid : List ℕ) where
   abbrev rules : List Rule
@@ -56,19 +55,19 @@ module _ (start : Lts → Rel) (s grid : List ℕ) where
       let fit = eqb-true _ _ (kept (eqb (length (words_of grid)) (n * row_words n)) Buffer [] (both-kept (sheet_rules s) _ k).1).0 in
       (same_length 8 1024 grid (n * row_words n) (omega arith) some (matrix-small n b.states)).0 fit
 
-  module _ {words₀ words : List ℕ} (a : Checked) (w : words₀ ≡ words_of grid)
+  module _ {words₀ words : List ℕ} (a : Answer (Unit {0})) (w : words₀ ≡ words_of grid)
       (is : write_start_call start s words₀ ≡ record { reply = checked_reply a; grid = words }) where
     on : write_start_call start s (words_of grid) ≡ record { reply = checked_reply a; grid = words }
     on = rw w at is
 
-    pub back-refused : {r : Refusal} → a ≡ Refused r → start_on_bytes start s grid ≡ record { reply = checked_reply a; grid = grid }
+    pub back-refused : {r : Refusal} → a ≡ Err r → start_on_bytes start s grid ≡ record { reply = checked_reply a; grid = grid }
     unfolding start_on_bytes write_start_call checked_reply
     back-refused {r} e = ⊎_elim
-        (λ k. absurd (numbered r (sym (ap (λ (o : WriteStartOutcome). o.reply.refusal) (when-kept rules _ _ on k)) ∙ ap (λ (x : Checked). (checked_reply x).refusal) e)))
+        (λ k. absurd (numbered r (sym (ap (λ (o : WriteStartOutcome). o.reply.refusal) (when-kept rules _ _ on k)) ∙ ap (λ (x : Answer (Unit {0})). (checked_reply x).refusal) e)))
         (λ q. refuses rules _ _ q.1 ∙ (rw (ap (λ (o : WriteStartOutcome). o.reply) (when-broken rules _ _ on q.1))))
         (finding rules)
 
-    pub back-written : {g : List ℕ} → a ≡ Passed → g ≡ stored 8 words grid → start_on_bytes start s grid ≡ record { reply = checked_reply a; grid = g }
+    pub back-written : {g : List ℕ} → a ≡ Ok tt → g ≡ stored 8 words grid → start_on_bytes start s grid ≡ record { reply = checked_reply a; grid = g }
     unfolding start_on_bytes write_start_call checked_reply
     back-written {g} e gs = ⊎_elim
         (λ k.
@@ -76,7 +75,7 @@ module _ (start : Lts → Rel) (s grid : List ℕ) where
         let l : length matrix ≡ n * row_words n = length-matrix_of n (start (lts_of s)) in
         let x : stored 8 matrix grid ≡ bytes_of 8 matrix = stored-all 8 matrix grid (rw l (long k)) in
         passes rules _ _ k ∙ (rw (e, gs, f, x)))
-        (λ q. absurd (numbered q.0 (ap (λ (x : Checked). (checked_reply x).refusal) (sym e) ∙ ap (λ (o : WriteStartOutcome). o.reply.refusal) (when-broken rules _ _ on q.1))))
+        (λ q. absurd (numbered q.0 (ap (λ (x : Answer (Unit {0})). (checked_reply x).refusal) (sym e) ∙ ap (λ (o : WriteStartOutcome). o.reply.refusal) (when-broken rules _ _ on q.1))))
         (finding rules)
 
 -- ## The promise

@@ -26,7 +26,6 @@ use Rattle.encoding.specs.declared.Header.{Header}
 use Rattle.encoding.specs.Records.{header_of, header_bytes, of_kind, encoding_length, system_records}
 use Rattle.encoding.specs.Labels.{labels_of, records_of}
 use Rattle.encoding.proofs.Labels.{named-label}
-use Rattle.encoding.specs.declared.Reading.TheVariants.{Readable, Refused}
 use Rattle.encoding.specs.Encoding.{sheet_rules, read_encoding}
 use Rattle.encoding.specs.Read.{reading_reply}
 use Rattle.encoding.specs.Denotation.{lts_of}
@@ -46,6 +45,7 @@ use Rattle.strategy.specs.Check.{check_rules, check_call}
 use Rattle.strategy.specs.Write.{WriteOutcome, write_rules, write_call}
 use Rattle.comparison.specs.Call.{compare_call}
 use Rattle.release.specs.Starts.{start_on_bytes}
+use Rattle.std.specs.Prelude.{Ok, Err}
 
 module _ {s t : List ℕ} (w : Twins s t) where
   -- what is computed from the number of states and the flow is the same
@@ -57,12 +57,12 @@ module _ {s t : List ℕ} (w : Twins s t) where
   unfolding read_encoding reading_reply
   read_same = ⊎_elim
       (λ k.
-      ap reading_reply (passes (sheet_rules s) Refused (Readable (header_of s)) k)
+      ap reading_reply (passes (sheet_rules s) Err (Ok (header_of s)) k)
       ∙ counts
-      ∙ sym (ap reading_reply (passes (sheet_rules t) Refused (Readable (header_of t)) (sym (twin-broken w) ∙ k))))
+      ∙ sym (ap reading_reply (passes (sheet_rules t) Err (Ok (header_of t)) (sym (twin-broken w) ∙ k))))
       (λ q.
-      ap reading_reply (refuses (sheet_rules s) Refused (Readable (header_of s)) q.1)
-      ∙ sym (ap reading_reply (refuses (sheet_rules t) Refused (Readable (header_of t)) (sym (twin-broken w) ∙ q.1))))
+      ap reading_reply (refuses (sheet_rules s) Err (Ok (header_of s)) q.1)
+      ∙ sym (ap reading_reply (refuses (sheet_rules t) Err (Ok (header_of t)) (sym (twin-broken w) ∙ q.1))))
       (finding (sheet_rules s))
     where
       counts : given ((header_of s).states ∷ (header_of s).actions ∷ (header_of s).transitions ∷ [])

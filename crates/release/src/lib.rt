@@ -2,7 +2,7 @@
 // Grids and 16-bit lists are carried as bytes, low byte first. The result is one number that carries the reply, as specs/Packed.antt says.
 #![tactic(auto)]
 
-ghost use Rattle.std.specs.Prelude.{◌+◌, ◌*◌, ◌≡◌};
+ghost use Rattle.std.specs.Prelude.{ℕ, ◌+◌, ◌*◌, ◌≤◌, ◌≡◌, Ok};
 ghost use Rattle.lts.specs.System.{termination_preorder};
 ghost use Rattle.lts.specs.Ready.{ready_preorder};
 ghost use Rattle.lts.specs.Refusal.{refusal_number, refusal_record};
@@ -13,14 +13,13 @@ ghost use Rattle.conversion.specs.Conversion.{to_named_call, to_plain_call, ToNa
 ghost use Rattle.starts.specs.Start.{written_start};
 ghost use Rattle.simulation.specs.Calls.{EndStart, ReadyStart, simulation_reply, simulation_call, SimulationPromise};
 ghost use Rattle.game.specs.Play.{play_reply, play_call, PlayPromise};
-ghost use Rattle.coarsest.specs.declared.Answer.TheVariants.{Done};
 ghost use Rattle.coarsest.specs.Call.{coarsest_reply};
 ghost use Rattle.coarsest_bytes.specs.Call.{coarsest_on_bytes, CoarsestBytesPromise};
 ghost use Rattle.coarsest_bytes.specs.Carried.{Small};
 ghost use Rattle.comparison.specs.Call.{compare_reply, compare_call, Relates, ComparePromise, CompareReadyPromise};
-ghost use Rattle.disjoint_union.specs.Join.{join_call, JoinPromise};
+ghost use Rattle.disjoint_union.specs.Join.{join_reply, join_call, JoinPromise};
 ghost use Rattle.strategy.specs.Check.{check_call, CheckPromise};
-ghost use Rattle.strategy.specs.Write.{write_call, WritePromise};
+ghost use Rattle.strategy.specs.Write.{write_reply, write_call, WritePromise};
 ghost use Rattle.strategy_bytes.specs.Bytes.{entry_bytes, entries_of_bytes};
 ghost use Rattle.release.specs.Packed.{packed, unpacked, coarsest_places, compare_places, check_places, one_place, no_place};
 ghost use Rattle.release.specs.Starts.{start_on_bytes, StartBytesPromise};
@@ -30,45 +29,46 @@ ghost use Rattle.release.specs.Turns.{FewTurns};
 fn pack_refused(r: lts::Refusal) -> u64
     ensures { result ≡ refusal_number r + 256 * refusal_record r }
 {
-    lts::refusal_number(r) + 256 * (lts::refusal_record(r) as u64)
+    r.number() + 256 * u64::from(r.record())
 }
 
 // A reply without a value, as one number.
-fn pack_checked(answer: lts::Checked) -> u64
+fn pack_checked(answer: Result<(), lts::Refusal>) -> u64
     ensures { result ≡ packed no_place (checked_reply answer) }
 {
     match answer {
-        lts::Checked::Refused(r) => pack_refused(r),
-        lts::Checked::Passed => 0,
+        Err(r) => pack_refused(r),
+        Ok(()) => 0,
     }
 }
 
-// Yes or no, as one number.
-fn pack_tested(answer: simulation::Tested) -> u64
-    ensures { result ≡ packed one_place (simulation_reply answer) }
+// Yes or no, or won or not, as one number.
+fn pack_decided(answer: Result<bool, lts::Refusal>) -> u64
+    ensures tested { result ≡ packed one_place (simulation_reply answer) }
+    ensures played { result ≡ packed one_place (play_reply answer) }
 {
     match answer {
-        simulation::Tested::Refused(r) => pack_refused(r),
-        simulation::Tested::Yes => 256,
-        simulation::Tested::No => 0,
+        Err(r) => pack_refused(r),
+        Ok(yes) => 256 * u64::from(yes),
     }
 }
 
-// Won or not, as one number.
-fn pack_played(answer: game::Played) -> u64
-    ensures { result ≡ packed one_place (play_reply answer) }
+// A length or a number of entries, as one number.
+fn pack_count(answer: Result<usize, lts::Refusal>) -> u64
+    requires { (count : ℕ) → answer ≡ Ok count → count ≤ 65536 }
+    ensures joined { result ≡ packed one_place (join_reply answer) }
+    ensures written { result ≡ packed one_place (write_reply answer) }
 {
     match answer {
-        game::Played::Refused(r) => pack_refused(r),
-        game::Played::Won => 256,
-        game::Played::NotWon => 0,
+        Err(r) => pack_refused(r),
+        Ok(count) => 256 * (count as u64),
     }
 }
 
 // The counts as one number.
 fn pack_counts(counts: coarsest::Counts) -> u64
     requires { Small counts }
-    ensures { result ≡ packed coarsest_places (coarsest_reply (Done counts)) }
+    ensures { result ≡ packed coarsest_places (coarsest_reply (Ok counts)) }
 {
     256 * (counts.steps as u64)
         + 16777216 * (counts.pairs as u64)
@@ -76,14 +76,13 @@ fn pack_counts(counts: coarsest::Counts) -> u64
 }
 
 // Yes or no and the turns, as one number.
-fn pack_compared(answer: comparison::Compared) -> u64
+fn pack_compared(answer: Result<comparison::Comparison, lts::Refusal>) -> u64
     requires { FewTurns (compare_reply answer) }
     ensures { result ≡ packed compare_places (compare_reply answer) }
 {
     match answer {
-        comparison::Compared::Refused(r) => pack_refused(r),
-        comparison::Compared::Yes(steps) => 256 + 65536 * (steps as u64),
-        comparison::Compared::No(steps) => 65536 * (steps as u64),
+        Err(r) => pack_refused(r),
+        Ok(c) => 256 * u64::from(c.related) + 65536 * (c.steps as u64),
     }
 }
 
@@ -104,8 +103,8 @@ pub extern "C" fn flow_coarsest(
 {
     let answer = coarsest_bytes::coarsest_on_bytes(s, start, schedule, grid, representatives);
     match answer {
-        coarsest::Answer::Refused(r) => pack_refused(r),
-        coarsest::Answer::Done(counts) => pack_counts(counts),
+        Err(r) => pack_refused(r),
+        Ok(counts) => pack_counts(counts),
     }
 }
 
@@ -137,11 +136,7 @@ pub extern "C" fn flow_join(first: &[u8], second: &[u8], out: &mut [u8]) -> u64
     ensures value { result ≡ packed one_place (unpacked one_place result) }
     ensures join_promise { JoinPromise first.now second.now out.old (unpacked one_place result) out.new }
 {
-    let answer = disjoint_union::join(first, second, out);
-    match answer {
-        disjoint_union::Joined::Refused(r) => pack_refused(r),
-        disjoint_union::Joined::Written(length) => 256 * (length as u64),
-    }
+    pack_count(disjoint_union::join(first, second, out))
 }
 
 // Normalise, into a buffer of the encoding's own length.
@@ -183,7 +178,7 @@ pub extern "C" fn flow_hand_play(s: &[u8], start: &[u8], p: u64, q: u64, rounds:
 {
     let mut words = [0u64; 1024];
     let n = carry::load_grid(start, &mut words);
-    pack_played(game::hand_play(s, &words[..n], p as usize, q as usize, rounds as usize))
+    pack_decided(game::hand_play(s, &words[..n], p as usize, q as usize, rounds as usize))
 }
 
 // Test simulation.
@@ -197,23 +192,21 @@ pub extern "C" fn flow_test_simulation(s: &[u8], start: &[u8], claim: &[u8]) -> 
     let mut claim_words = [0u64; 1024];
     let m = carry::load_grid(start, &mut start_words);
     let n = carry::load_grid(claim, &mut claim_words);
-    pack_tested(simulation::is_simulation(s, &start_words[..m], &claim_words[..n]))
+    pack_decided(simulation::is_simulation(s, &start_words[..m], &claim_words[..n]))
 }
 
 // Ready start or end start, with the words that the bytes carry.
-fn start_in(s: &[u8], ready: bool, grid: &mut [u8], words: &mut [u64]) -> lts::Checked
+fn start_in(s: &[u8], ready: bool, grid: &mut [u8], words: &mut [u64]) -> Result<(), lts::Refusal>
     requires { words.old ≡ words_of grid.old }
     ensures { start_on_bytes (written_start ready) s.now grid.old ≡ record { reply = checked_reply result; grid = grid.new } }
 {
-    let answer = simulation::write_start(s, ready, words);
-    if let lts::Checked::Passed = answer {
-        carry::store_words(words, grid);
-    }
-    answer
+    simulation::write_start(s, ready, words)?;
+    carry::store(words, grid);
+    Ok(())
 }
 
 // The same, with an array for the words.
-fn start_on_bytes(s: &[u8], ready: bool, grid: &mut [u8]) -> lts::Checked
+fn start_on_bytes(s: &[u8], ready: bool, grid: &mut [u8]) -> Result<(), lts::Refusal>
     ensures { start_on_bytes (written_start ready) s.now grid.old ≡ record { reply = checked_reply result; grid = grid.new } }
 {
     let mut words = [0u64; 1024];
@@ -252,9 +245,9 @@ pub extern "C" fn flow_check_plan(s: &[u8], start: &[u8], plan: &[u8]) -> u64
     let n = carry::load_grid(start, &mut words);
     let answer = strategy_bytes::check_bytes(s, &words[..n], plan);
     match answer {
-        strategy::Verdict::Refused(r) => pack_refused(r),
-        strategy::Verdict::Last(p, q, depth) => {
-            256 * (p as u64) + 16777216 * (q as u64) + 1099511627776 * (depth as u64)
+        Err(r) => pack_refused(r),
+        Ok(last) => {
+            256 * (last.p as u64) + 16777216 * (last.q as u64) + 1099511627776 * (last.depth as u64)
         }
     }
 }
@@ -270,9 +263,5 @@ pub extern "C" fn flow_write_plan(s: &[u8], start: &[u8], p: u64, q: u64, plan: 
 {
     let mut words = [0u64; 1024];
     let n = carry::load_grid(start, &mut words);
-    let answer = strategy_bytes::write_bytes(s, &words[..n], p as usize, q as usize, plan);
-    match answer {
-        strategy::Written::Refused(r) => pack_refused(r),
-        strategy::Written::Entries(count) => 256 * (count as u64),
-    }
+    pack_count(strategy_bytes::write_bytes(s, &words[..n], p as usize, q as usize, plan))
 }

@@ -10,15 +10,13 @@ pub fn put_text(out: &mut [u8], at: usize, text: &[u8]) -> usize
     ensures value { result ≡ at + length text.now }
     ensures out_after { out.new ≡ written at text.now out.old }
 {
-    let mut i = 0;
-    while i < text.len() {
-        out[at + i] = text[i];
-        i += 1;
-    }
-    at + i
+    let end = at + text.len();
+    out[at..end].copy_from_slice(text);
+    end
 }
 
 // Writes x in decimal from `at` on, and returns the place after it.
+// By hand: `Display` gives a `Result` whose `Err` cannot come, and `itoa` a text of its own to copy: neither is plainer.
 pub fn put_decimal(out: &mut [u8], at: usize, x: usize) -> usize
     requires x_bound { x < 100000 }
     requires at_in_bounds { at + 5 ≤ length out.old }
@@ -26,10 +24,10 @@ pub fn put_decimal(out: &mut [u8], at: usize, x: usize) -> usize
     ensures out_after { out.new ≡ written at (decimal x) out.old }
 {
     if x < 10 {
-        out[at] = 48 + x as u8;
+        out[at] = b'0' + x as u8;
         return at + 1;
     }
     let next = put_decimal(out, at, x / 10);
-    out[next] = 48 + (x % 10) as u8;
+    out[next] = b'0' + (x % 10) as u8;
     next + 1
 }

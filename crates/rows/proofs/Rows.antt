@@ -9,7 +9,7 @@ use native.Mathlib.Omega.{arith}
 use lib.Bits.{bit_and, bit_or, bit_xor, and_lt, or_lt, xor_lt, and_le_l}
 use lib.Arith.{digits_div, digits_mod}
 use lib.ListN.{length, replicate, length-replicate, get_or-append, get_or, set, take, drop, length-set, length-append, length-drop, drop_of_length-le}
-use lib.Seq.{length-take-le, get_or-drop, get_or-append-add, get_or-set_same, get_or-set_other, take_all}
+use lib.Seq.{length-take-le, get_or-take, get_or-drop, get_or-append-add, get_or-set_same, get_or-set_other, take_all}
 use lib.Dec.{eqb, ltb}
 use lib.Pow.{pow_pos}
 use borrow.Rule.Slice.PartMut.{put_mid}
@@ -76,6 +76,12 @@ row_of-cong k A B e = list_below-cong k _ _ (λ c h. word-at B c (word_at-lt A c
 pub row-ext : (k : ℕ) (S : ℕ → Bool) (row : List ℕ) → length row ≡ k → ((j : ℕ) → get_or row j 0 < 2 ^ 64) → ((q : ℕ) → q < k * 64 → in_row row q ≡ S q) → row ≡ row_of k S
 row-ext k S row long words same =
     list_ext k (word_at S) row long (λ c h. word-at S c (words c) (λ i l. sym (in_row-at row c i l) ∙ same (c * 64 + i) (omega arith)))
+
+-- the first k words of a row are its states below 64 * k
+pub row-front : (k : ℕ) (row : List ℕ) → k ≤ length row → ((j : ℕ) → get_or row j 0 < 2 ^ 64) → take k row ≡ row_of k (in_row row)
+row-front k row h words =
+    list_ext k (word_at (in_row row)) (take k row) (length-take-le k row h) (λ c l.
+    get_or-take k row c 0 l ∙ word-at (in_row row) c (words c) (λ i b. sym (in_row-at row c i b)))
 
 -- ---- a loop that fills a row word by word: after c turns the row is `row_of c S ++ drop c d`
 

@@ -1,5 +1,6 @@
 -- Sets of states as rows of 64-bit words (document 01, "Grids").
-use Rattle.std.specs.Prelude.{◌≡◌, Bool, true, false, cond, ◌&&◌, List, ℕ, zero, suc, ◌+◌, ◌*◌, ◌/◌, ◌%◌, ◌^◌, ◌<◌, ◌≤◌, eqb, ltb, length, get_or}
+use Rattle.std.specs.Prelude.{◌≡◌, ◌≢◌, ◌-◌, bit_and, Option, MatchOption, Bool, true, false, cond, ◌&&◌, List, ℕ, zero, suc, ◌+◌, ◌*◌, ◌/◌, ◌%◌, ◌^◌, ◌<◌, ◌≤◌, eqb, ltb, length, get_or}
+use Rattle.std.specs.Int.Count.{count_trailing_zeros}
 use Rattle.lts.specs.Bounded.{◌⇒◌, all_below, list_below}
 use Rattle.lts.specs.System.{Set}
 
@@ -50,3 +51,7 @@ pub record Next (S : Set) (bound from r : ℕ) : Type 0 where
 -- every member of A below k is in B
 unfoldable pub included_below : ℕ → Set → Set → Bool
 included_below k A B = all_below k (λ q. A q ⇒ B q)
+
+-- from the word x its lowest one is taken, at place i, and y is left; or there is none to take
+abbrev pub TakesLowest : ℕ → Option ℕ → ℕ → Type 0
+TakesLowest x r y = MatchOption r ((x ≡ 0) × (y ≡ 0)) (λ i. (x ≢ 0) × (i ≡ count_trailing_zeros 64 x) × (y ≡ bit_and x (x - 1)))

@@ -1,13 +1,13 @@
 -- The calls end start, ready start and test simulation: what each replies and leaves in its buffer (document 01, "Grids" and the table of
 -- refusals; document 02, L6), and what is promised of it.
-use Rattle.std.specs.Prelude.{ℕ, ◌*◌, ◌<◌, ◌≡◌, ◌↔◌, Bool, cond, ◌&&◌, List, [], ◌∷◌, ◌++◌, T, eqb, length}
+use Rattle.std.specs.Prelude.{ℕ, ◌*◌, ◌<◌, ◌≡◌, ◌↔◌, Bool, cond, ◌&&◌, List, [], ◌∷◌, ◌++◌, T, eqb, length, Ok, Err}
 use Rattle.lts.specs.Bounded.{restrict}
 use Rattle.lts.specs.System.{Rel, Lts, is_simulation, within, Simulation}
 use Rattle.lts.specs.Refinement.{coarsest}
 use Rattle.lts.specs.Ready.{SameActions, ReadySimulation}
 use Rattle.lts.specs.declared.Refusal.{Refusal}
 use Rattle.lts.specs.declared.Refusal.TheVariants.{Grid, Buffer}
-use Rattle.lts.specs.Rule.{Rule, ◌otherwise◌, Nothing, First, broken, checked, Reply, refused, given, Decides}
+use Rattle.lts.specs.Rule.{Rule, ◌otherwise◌, Nothing, First, broken, checked, Reply, refused, given, Decides, Answer}
 use Rattle.encoding.specs.Records.{header_of}
 use Rattle.encoding.specs.Encoding.{sheet_rules}
 use Rattle.encoding.specs.Denotation.{lts_of}
@@ -15,8 +15,6 @@ use Rattle.rows.specs.Rows.{row_words}
 use Rattle.relation.specs.Matrix.{relation_of, matrix_of}
 use Rattle.relation.specs.Check.{is_matrix, start_rules}
 use Rattle.inputs.specs.Inputs.{input_rules}
-use Rattle.simulation.specs.declared.Tested.{Tested}
-use Rattle.simulation.specs.declared.Tested.TheVariants.{Yes, No, Refused}
 
 -- ## End start and ready start
 -- the reply, and the lent buffer afterwards
@@ -61,10 +59,9 @@ pub record WriteStartPromise (Meant : List ℕ → List ℕ → Type 0) (s grid�
 
 -- ## Test simulation
 -- the reply of each answer: yes or no
-unfoldable pub simulation_reply : Tested → Reply
-simulation_reply Yes = given (1 ∷ [])
-simulation_reply No = given (0 ∷ [])
-simulation_reply (Refused r) = refused r
+unfoldable pub simulation_reply : Answer Bool → Reply
+simulation_reply (Ok b) = given (cond b 1 0 ∷ [])
+simulation_reply (Err r) = refused r
 
 -- the sheet (1 to 6, 16, 17), then the start (8 to 10), then the claim (8)
 unfoldable pub simulation_rules : List ℕ → List ℕ → List ℕ → List Rule

@@ -13,14 +13,6 @@ ghost use Rattle.starts.specs.Start.{written_start};
 ghost use Rattle.simulation.specs.Calls.{write_start_call, EndStart, ReadyStart, WriteStartPromise};
 ghost use Rattle.simulation.specs.Calls.{is_inside, simulation_reply, simulation_call, SimulationPromise};
 
-// What testing a simulation answers.
-#[derive(Clone, Copy)]
-pub enum Tested {
-    Yes,
-    No,
-    Refused(lts::Refusal),
-}
-
 // Writes the ready start of a readable encoding, or its end start.
 fn write_loaded(s: &[u8], h: encoding::Header, ready: bool, grid: &mut [u64])
     requires { ReadableAs s.now h × (length grid.old ≡ h.states * row_words h.states) }
@@ -31,24 +23,19 @@ fn write_loaded(s: &[u8], h: encoding::Header, ready: bool, grid: &mut [u64])
 }
 
 // The same of an encoding: ready start, or end start.
-pub fn write_start(s: &[u8], ready: bool, grid: &mut [u64]) -> lts::Checked
+pub fn write_start(s: &[u8], ready: bool, grid: &mut [u64]) -> Result<(), lts::Refusal>
     ensures { write_start_call (written_start ready) s.now grid.old ≡ record { reply = checked_reply result; grid = grid.new } }
 {
-    let reading = reader::read_encoding(s);
-    match reading {
-        encoding::Reading::Refused(r) => lts::Checked::Refused(r),
-        encoding::Reading::Readable(h) => {
-            if grid.len() != relation::matrix_words(h.states) {
-                return lts::Checked::Refused(lts::Refusal::Buffer);
-            }
-            write_loaded(s, h, ready, grid);
-            lts::Checked::Passed
-        }
+    let h = reader::read_encoding(s)?;
+    if grid.len() != relation::matrix_words(h.states) {
+        return Err(lts::Refusal::Buffer);
     }
+    write_loaded(s, h, ready, grid);
+    Ok(())
 }
 
 // End start: writes the termination preorder of an encoding.
-pub fn termination_preorder(s: &[u8], grid: &mut [u64]) -> lts::Checked
+pub fn termination_preorder(s: &[u8], grid: &mut [u64]) -> Result<(), lts::Refusal>
     ensures grid_value { write_start_call termination_preorder s.now grid.old ≡ record { reply = checked_reply result; grid = grid.new } }
     ensures write_start_promise { WriteStartPromise EndStart s.now grid.old (checked_reply result) grid.new }
 {
@@ -56,7 +43,7 @@ pub fn termination_preorder(s: &[u8], grid: &mut [u64]) -> lts::Checked
 }
 
 // Ready start: writes the ready preorder of an encoding.
-pub fn ready_preorder(s: &[u8], grid: &mut [u64]) -> lts::Checked
+pub fn ready_preorder(s: &[u8], grid: &mut [u64]) -> Result<(), lts::Refusal>
     ensures grid_value { write_start_call ready_preorder s.now grid.old ≡ record { reply = checked_reply result; grid = grid.new } }
     ensures write_start_promise { WriteStartPromise ReadyStart s.now grid.old (checked_reply result) grid.new }
 {
@@ -74,22 +61,13 @@ fn is_inside(s: &[u8], h: encoding::Header, start: &[u64], claim: &[u64]) -> boo
 }
 
 // Test simulation: whether the claim is a simulation and inside the start.
-pub fn is_simulation(s: &[u8], start: &[u64], claim: &[u64]) -> Tested
+pub fn is_simulation(s: &[u8], start: &[u64], claim: &[u64]) -> Result<bool, lts::Refusal>
     ensures claim_value { simulation_call s.now start.now claim.now ≡ simulation_reply result }
     ensures simulation_promise { SimulationPromise s.now start.now claim.now (simulation_reply result) }
 {
-    let reading = inputs::read_inputs(s, start);
-    match reading {
-        encoding::Reading::Refused(r) => Tested::Refused(r),
-        encoding::Reading::Readable(h) => {
-            let n = h.states;
-            if !relation::is_matrix(claim, n) {
-                return Tested::Refused(lts::Refusal::Grid);
-            }
-            if is_inside(s, h, start, claim) {
-                return Tested::Yes;
-            }
-            Tested::No
-        }
+    let h = inputs::read_inputs(s, start)?;
+    if !relation::is_matrix(claim, h.states) {
+        return Err(lts::Refusal::Grid);
     }
+    Ok(is_inside(s, h, start, claim))
 }

@@ -1,10 +1,14 @@
 -- Rows that one action of a refinement step leaves as they are, and the blocks that it makes. Assumes nothing.
 use mathlib.Core.Path.{◌≡◌, refl, sym, ap, ap₂, ◌∙◌}
 use mathlib.Core.Bool.{Bool, true, false, cond, not, ◌&&◌, true≢false}
-use Prim.Native.Nat.{ℕ}
+use mathlib.Core.List.{List}
+use Prim.Native.Nat.{ℕ, ◌<◌}
 use Rattle.lts.specs.System.{Set, Rel}
 use Rattle.lts.proofs.Below.{and-fst, and-snd}
 use Rattle.sets.specs.Parts.{Parted, Owned}
+use Rattle.sets.specs.Sets.{set_at}
+use Rattle.sets.proofs.Lists.{sets-in, sets-cong}
+use Rattle.sets.proofs.Rewritten.{Rewritten, mixed, mixed-out}
 use Rattle.splitting.specs.Split.{split_related, split_blocks}
 use Rattle.splitting.proofs.Laws.{SameRel}
 
@@ -106,3 +110,10 @@ related-row Rem K P K' P' g h k p = ap₂ (λ (a b : Bool). a && not (b && not (
 pub blocks-row : (Rem : Set) (P P' : Rel) (g h : ℕ) → P g h ≡ P' g h → split_blocks Rem P g h ≡ split_blocks Rem P' g h
 unfolding split_blocks
 blocks-row Rem P P' g h p = ap (λ (b : Bool). b && cond (Rem g) (Rem h) (not (Rem h))) p
+
+-- a list as it is at the start of a word
+pub rewritten-again : {W : Set} {New Old : Rel} {g : List ℕ} → Rewritten W New Old g → (W' : Set) (New' : Rel) → ((t : ℕ) → t < 256 → W' t ≡ false)
+    → Rewritten W' New' (set_at g) g
+rewritten-again {W} {New} {Old} {g} was W' New' off = record {
+  is = was.is ∙ sets-cong 256 _ _ (λ t h ht hh. sym (mixed-out W' New' (set_at g) t h (off t ht) ∙ sets-in 256 (mixed W New Old) was.is t h ht hh));
+}

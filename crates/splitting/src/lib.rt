@@ -1,11 +1,12 @@
 // One action of a refinement step on lists of sets (document 01, "Turns"): the split of the blocks by Rem, and the pairs that it refutes.
+// An array that a call gives is bound before it is stored, as in `let next = f(out); out = next;`: the check does not cover `out = f(out);`.
 #![tactic(auto)]
 
-ghost use Rattle.std.specs.Prelude.{◌≡◌, cond, not, ◌&&◌, ◌||◌, ◌+◌, ◌*◌, ◌<◌, ◌≤◌, eqb, length};
+ghost use Rattle.std.specs.Prelude.{◌≡◌, cond, not, ◌&&◌, ◌||◌, ◌+◌, ◌*◌, ◌<◌, eqb, length};
 ghost use Rattle.lts.specs.Bounded.{any_below};
 ghost use Rattle.lts.specs.System.{Set};
-ghost use Rattle.rows.specs.Rows.{bit, word_of, in_row, row_of};
-ghost use Rattle.sets.specs.Sets.{set_at, sets_of, updated, window};
+ghost use Rattle.rows.specs.Rows.{in_row, row_of};
+ghost use Rattle.sets.specs.Sets.{set_at, sets_of, updated};
 ghost use Rattle.sets.specs.Parts.{Parted, Owned};
 ghost use Rattle.splitting.specs.Split.{split_related, split_blocks, without, Unsplit, Meets, Pruned, Acted};
 
@@ -38,35 +39,21 @@ fn sweep_split(blocks: &[u64], shared: [u64; 4], rem: [u64; 4]) -> [u64; 4]
     out
 }
 
-// Adds the blocks of the states of word c that `word` holds. A state that is there is passed over: its block is there.
-fn join_word(blocks: &[u64], c: usize, word: u64, from: [u64; 4]) -> [u64; 4]
-    requires { (length blocks.now ≡ 1024) × (c < 4) × ((S : Set) × Parted (set_at blocks.now) S)
-        × ((W : Set) × Meets (set_at blocks.now) W (in_row from)) }
-    ensures { (W : Set) → Meets (set_at blocks.now) W (in_row from)
-        → Meets (set_at blocks.now) (λ t. W t || window c word t) (in_row result) }
-{
-    let mut out = from;
-    let mut left = word & !from[c];
-    while left != 0 {
-        let block = sets::at(blocks, 64 * c + u64::trailing_zeros(left) as usize);
-        left = left & (left - 1) & !block[c];
-        let next = sets::join(out, block);
-        out = next;
-    }
-    out
-}
-
-// The states whose block has a member of the set.
+// The states whose block has a member of the set. A state that is there is passed over: its block is there.
 fn joined(blocks: &[u64], set: [u64; 4]) -> [u64; 4]
     requires { (length blocks.now ≡ 1024) × ((S : Set) × Parted (set_at blocks.now) S) }
     ensures { Meets (set_at blocks.now) (in_row set) (in_row result) }
 {
     let mut out = [0u64; 4];
-    let mut c = 0;
-    while c < 4 {
-        let next = join_word(blocks, c, set[c], out);
-        out = next;
-        c += 1;
+    for c in 0..4 {
+        let mut left = set[c] & !out[c];
+        // No `rows::ones` here: what is left also loses the states of each block that is added.
+        while left != 0 {
+            let block = sets::at(blocks, 64 * c + left.trailing_zeros() as usize);
+            left = left & (left - 1) & !block[c];
+            let next = sets::join(out, block);
+            out = next;
+        }
     }
     out
 }
@@ -114,32 +101,16 @@ fn split_at(related: &mut [u64], blocks: &mut [u64], rem: [u64; 4], g: usize)
     sets::put(blocks, g, sets::minus(block, rem));
 }
 
-// The same at the states of word c that `word` holds.
-fn split_word(related: &mut [u64], blocks: &mut [u64], rem: [u64; 4], c: usize, word: u64)
-    requires { (length related.old ≡ 1024) × (length blocks.old ≡ 1024) × (c < 4) }
-    ensures related_after { let K = set_at related.old in
-        related.new ≡ sets_of 256 (updated (window c word) (λ t _. split_related (in_row rem) K (set_at blocks.old) t) K) }
-    ensures blocks_after { let P = set_at blocks.old in
-        blocks.new ≡ sets_of 256 (updated (window c word) (λ t _. split_blocks (in_row rem) P t) P) }
-{
-    let mut left = word;
-    while left != 0 {
-        let g = 64 * c + u64::trailing_zeros(left) as usize;
-        left = left & (left - 1);
-        split_at(related, blocks, rem, g);
-    }
-}
-
 // In each block, drops from K each (g, h) with g outside Rem and h in Rem, and splits the block. The block of a state outside `rows` lies on one side.
 fn split(related: &mut [u64], blocks: &mut [u64], rem: [u64; 4], rows: [u64; 4])
     requires { (length related.old ≡ 1024) × (length blocks.old ≡ 1024) × Unsplit (set_at blocks.old) (in_row rem) (in_row rows) }
     ensures related_after { related.new ≡ sets_of 256 (split_related (in_row rem) (set_at related.old) (set_at blocks.old)) }
     ensures blocks_after { blocks.new ≡ sets_of 256 (split_blocks (in_row rem) (set_at blocks.old)) }
 {
-    let mut c = 0;
-    while c < 4 {
-        split_word(related, blocks, rem, c, rows[c]);
-        c += 1;
+    for c in 0..4 {
+        for i in rows::ones(rows[c]) {
+            split_at(related, blocks, rem, 64 * c + i);
+        }
     }
 }
 
@@ -166,23 +137,6 @@ fn prune_at(related: &mut [u64], rem: [u64; 4], g: usize) -> bool
     sets::any(sets::meet(row, rem))
 }
 
-// The same at the states of word c that `word` holds; the bits of the rows that change.
-fn prune_word(related: &mut [u64], rem: [u64; 4], c: usize, word: u64) -> u64
-    requires { (length related.old ≡ 1024) × (c < 4) }
-    ensures related_after { let K = set_at related.old in
-        related.new ≡ sets_of 256 (updated (window c word) (λ t _ h. K t h && not (in_row rem h)) K) }
-    ensures value { result ≡ word_of 64 (λ i. bit word i && any_below 256 (λ h. set_at related.old (64 * c + i) h && in_row rem h)) }
-{
-    let mut out = 0;
-    let mut left = word;
-    while left != 0 {
-        let i = u64::trailing_zeros(left) as usize;
-        left = left & (left - 1);
-        out = out | (sets::digit(prune_at(related, rem, 64 * c + i)) << i);
-    }
-    out
-}
-
 // Takes Rem out of each row of `rows`; the rows that change.
 fn prune(related: &mut [u64], rem: [u64; 4], rows: [u64; 4]) -> [u64; 4]
     requires { length related.old ≡ 1024 }
@@ -190,10 +144,12 @@ fn prune(related: &mut [u64], rem: [u64; 4], rows: [u64; 4]) -> [u64; 4]
     ensures value { result ≡ row_of 4 (λ g. in_row rows g && any_below 256 (λ h. set_at related.old g h && in_row rem h)) }
 {
     let mut out = [0u64; 4];
-    let mut c = 0;
-    while c < 4 {
-        out[c] = prune_word(related, rem, c, rows[c]);
-        c += 1;
+    for c in 0..4 {
+        let mut word = 0;
+        for i in rows::ones(rows[c]) {
+            word |= u64::from(prune_at(related, rem, 64 * c + i)) << i;
+        }
+        out[c] = word;
     }
     out
 }

@@ -14,36 +14,25 @@ fn action_words(table: &transitions::Table) -> [u64; 256]
     requires { Formed table.now }
     ensures { result ≡ row_of 256 (action_bits (table_lts table.now)) }
 {
-    let k = transitions::count(table);
     let mut words = [0u64; 256];
-    let mut i = 0;
-    while i < k {
+    for i in 0..transitions::count(table) {
         let p = transitions::source(table, i);
         rows::insert(&mut words, 64 * p + (transitions::action(table, i) - 1));
-        i += 1;
     }
     words
 }
 
-// Whether two words hold the same set of actions: equal words do, and no others.
-fn same_set(x: u64, y: u64) -> bool
-    ensures { result ≡ same_set x y }
-{
-    x == y
-}
-
-// The states below n whose word holds the same set as state p's.
+// The states below n whose word holds the same set as state p's: equal words do, and no others.
 fn alike(words: &[u64; 256], n: usize, p: usize) -> [u64; 4]
     requires { (n ≤ 256) × (p < n) }
     ensures { let of = words.now in result ≡ row_of 4 (states_below n (λ q. same_set (get_or of p 0) (get_or of q 0))) }
 {
+    let own = words[p];
     let mut set = [0u64; 4];
-    let mut q = 0;
-    while q < n {
-        if same_set(words[p], words[q]) {
+    for (q, word) in words[..n].iter().enumerate() {
+        if *word == own {
             rows::insert(&mut set, q);
         }
-        q += 1;
     }
     set
 }
@@ -70,11 +59,9 @@ fn write_ready(table: &transitions::Table, grid: &mut [u64])
     let w = rows::row_words(n);
     let terminating = transitions::terminating(table);
     let words = action_words(table);
-    let mut p = 0;
-    while p < n {
+    for p in 0..n {
         let at = p * w;
         rows::row_copy(&mut grid[at..], &ready_row(&terminating, &words, n, p), w);
-        p += 1;
     }
 }
 

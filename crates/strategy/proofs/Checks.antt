@@ -21,8 +21,9 @@ use Rattle.lts.proofs.Below.{clash}
 use Rattle.inputs.specs.Inputs.{input_rules}
 use Rattle.strategy_check.specs.Entries.{entry_of}
 use Rattle.strategy_check.proofs.Entries.{entries_below, accepted-none}
-use Rattle.strategy.specs.declared.Verdict.TheVariants.{Last, Refused}
-use Rattle.strategy.specs.Check.{check_reply, check_rules, check_call}
+use Rattle.strategy.specs.declared.Accepted.{Accepted}
+use Rattle.strategy.specs.Check.{accepted_with, check_reply, check_rules, check_call}
+use Rattle.std.specs.Prelude.{Err}
 
 -- an accepted list is not empty
 pub accepted-long : (L : Lts) (start : Rel) (xs : List ℕ) → accepted L start (entries_of xs) ≡ true → 4 ≤ length xs
@@ -42,17 +43,15 @@ last-is xs h =
     let n : length xs / 4 ≡ suc (length xs / 4 - 1) = omega (arith, h) in
     ap last_of (entries_below xs ∙ ap (λ (k : ℕ). list_below k (entry_of xs)) n) ∙ last-below (length xs / 4 - 1) (entry_of xs)
 
-pub last-first : (xs : List ℕ) {x : ℕ} → 4 ≤ length xs → x ≡ get_or xs (4 * (length xs / 4 - 1)) 0 → x ≡ (last_of (entries_of xs)).p
+pub last-read : (xs : List ℕ) (depth : ℕ) → 4 ≤ length xs
+    → ◌≡◌ {A = Accepted} (record { p = get_or xs (4 * (length xs / 4 - 1)) 0; q = get_or xs (4 * (length xs / 4 - 1) + 1) 0; depth = depth })
+    (record { p = (last_of (entries_of xs)).p; q = (last_of (entries_of xs)).q; depth = depth })
 unfolding entry_of
-last-first xs h e = e ∙ ap (λ (v : Entry). v.p) (sym (last-is xs h))
-
-pub last-second : (xs : List ℕ) {x : ℕ} → 4 ≤ length xs → x ≡ get_or xs (4 * (length xs / 4 - 1) + 1) 0 → x ≡ (last_of (entries_of xs)).q
-unfolding entry_of
-last-second xs h e = e ∙ ap (λ (v : Entry). v.q) (sym (last-is xs h))
+last-read xs depth h = ap (λ (v : Entry). record { p = v.p; q = v.q; depth = depth }) (sym (last-is xs h))
 
 -- ## What the call comes to, down the table
 module _ (s start : List ℕ) (entries : List Entry) where
-  pub unready : {r : Refusal} → broken (input_rules s start) ≡ First r → check_call s start entries ≡ check_reply (Refused r)
+  pub unready : {r : Refusal} → broken (input_rules s start) ≡ First r → check_call s start entries ≡ check_reply (Err r)
   unfolding check_rules check_call check_reply
   unready e = refuses _ _ _ (first_part _ _ e)
 
@@ -62,11 +61,11 @@ module _ (s start : List ℕ) (entries : List Entry) where
     unfolding check_rules
     left = rw size (second-part _ _ kept)
 
-    pub unsound : not b ≡ true → check_call s start entries ≡ check_reply (Refused Unsound)
+    pub unsound : not b ≡ true → check_call s start entries ≡ check_reply (Err Unsound)
     unfolding check_call check_reply
     unsound t = refuses _ _ _ (stop _ _ _ left test t)
 
     pub accepts : {x y z : ℕ} → not b ≡ false → x ≡ (last_of entries).p → y ≡ (last_of entries).q → z ≡ depth_of (lts_of s) entries
-        → check_call s start entries ≡ check_reply (Last x y z)
+        → check_call s start entries ≡ check_reply (accepted_with x y z)
     unfolding check_call check_reply
     accepts t x y z = rw (x, y, z) (passes _ _ _ (done (pass _ _ _ left test t)))

@@ -15,7 +15,7 @@ use Rattle.lts.specs.declared.Entry.{Entry}
 use Rattle.lts.specs.Strategy.{entries_of, entry_numbers}
 use Rattle.lts.specs.declared.Refusal.{Refusal}
 use Rattle.lts.specs.declared.Refusal.TheVariants.{StillRelated, Buffer}
-use Rattle.lts.specs.Rule.{Rule, ◌otherwise◌, Nothing, First, broken, Reply, refused, given}
+use Rattle.lts.specs.Rule.{Rule, ◌otherwise◌, Nothing, First, broken, Reply, refused, given, Answer}
 use Rattle.lts.proofs.Rule.{first_part, second-part, kept, both-kept, refuses, passes, when-broken, when-kept, finding, numbered, number_same}
 use Rattle.lts.proofs.Strategy.{strategy-count}
 use Rattle.encoding.specs.Records.{header_of}
@@ -24,13 +24,12 @@ use Rattle.inputs.specs.Inputs.{pair_rules}
 use Rattle.inputs.proofs.Laws.{pair-inputs, pair-states}
 use Rattle.strategy_rounds.proofs.Refutations.{square-most}
 use Rattle.strategy_rounds.proofs.Lengths.{length_most}
-use Rattle.strategy.specs.declared.Written.{Written}
-use Rattle.strategy.specs.declared.Written.TheVariants.{Entries, Refused}
 use Rattle.strategy.specs.Check.{start_of}
 use Rattle.strategy.specs.Write.{WriteOutcome, write_reply, plan_of, plan_length, write_rules, write_call}
 use Rattle.strategy.proofs.Promise.{known, numbers-back}
 use Rattle.strategy_write.proofs.Writes.{length-numbers}
 use Rattle.strategy.specs.Within.{entry_count, number_count, WrittenWithin}
+use Rattle.std.specs.Prelude.{Ok, Err}
 
 -- ---- numbers for a plan of `room` entries
 
@@ -56,15 +55,15 @@ count-test room k few = by (leb room 65536) refl
 
 -- ---- what a reply says of the answer
 
-refused-answer : (t : Written) (r : Refusal) → write_reply t ≡ refused r → t ≡ Refused r
+refused-answer : (t : Answer ℕ) (r : Refusal) → write_reply t ≡ refused r → t ≡ Err r
 unfolding write_reply
-refused-answer (Entries c) r e = absurd (numbered r (ap (λ (x : Reply). x.refusal) e))
-refused-answer (Refused q) r e = ap Refused (number_same q r (ap (λ (x : Reply). x.refusal) e) (ap (λ (x : Reply). x.record_number) e))
+refused-answer (Ok c) r e = absurd (numbered r (ap (λ (x : Reply). x.refusal) e))
+refused-answer (Err q) r e = ap Err (number_same q r (ap (λ (x : Reply). x.refusal) e) (ap (λ (x : Reply). x.record_number) e))
 
-given-answer : (t : Written) (k : ℕ) → write_reply t ≡ given (k ∷ []) → t ≡ Entries k
+given-answer : (t : Answer ℕ) (k : ℕ) → write_reply t ≡ given (k ∷ []) → t ≡ Ok k
 unfolding write_reply
-given-answer (Entries c) k e = let v = ap (λ (x : Reply). x.values) e in cc
-given-answer (Refused q) k e = absurd (numbered q (sym (ap (λ (x : Reply). x.refusal) e)))
+given-answer (Ok c) k e = let v = ap (λ (x : Reply). x.values) e in cc
+given-answer (Err q) k e = absurd (numbered q (sym (ap (λ (x : Reply). x.refusal) e)))
 
 -- ---- the plan
 
@@ -104,7 +103,7 @@ module _ (s start : List ℕ) (p q : ℕ) where
       by true f few = rw (f, count-test room k (few f))
 
   -- ---- what is written into numbers d of that count, with others after them
-  module _ (room : ℕ) (answer : Written) (numbers d part rest : List ℕ) (long : length d ≡ number_count room)
+  module _ (room : ℕ) (answer : Answer ℕ) (numbers d part rest : List ℕ) (long : length d ≡ number_count room)
       (is : write_call entry_numbers 4 s start p q d ≡ record { reply = write_reply answer; plan = part }) (whole : numbers ≡ part ++ rest) where
     abbrev rules : List Rule
     rules = write_rules s start p q room
@@ -127,10 +126,10 @@ module _ (s start : List ℕ) (p q : ℕ) where
     all : broken rules ≡ Nothing → numbers ≡ entry_numbers es ++ (drop (4 * k) d ++ rest)
     all e = whole ∙ ap (λ (l : List ℕ). l ++ rest) (ap (λ (o : WriteOutcome ℕ). o.plan) (outcome-kept e)) ∙ append_assoc (entry_numbers es) (drop (4 * k) d) rest
 
-    refuses-is : (r : Refusal) → broken rules ≡ First r → answer ≡ Refused r
+    refuses-is : (r : Refusal) → broken rules ≡ First r → answer ≡ Err r
     refuses-is r e = refused-answer answer r (ap (λ (o : WriteOutcome ℕ). o.reply) (outcome-broken r e))
 
-    answers-is : broken rules ≡ Nothing → answer ≡ Entries k
+    answers-is : broken rules ≡ Nothing → answer ≡ Ok k
     answers-is e = given-answer answer k (ap (λ (o : WriteOutcome ℕ). o.reply) (outcome-kept e))
 
     bounds : (entry_count answer ≤ room) × (4 * entry_count answer ≤ length numbers)
@@ -151,7 +150,7 @@ module _ (s start : List ℕ) (p q : ℕ) where
 
 -- ---- what is carried into a plan is the outcome of the call on it
 
-pub carried-within : {A : Type 0} (carried : List Entry → List A) (width : ℕ) → carried [] ≡ [] → (s start : List ℕ) (p q : ℕ) (plan : List A) {answer : Written} {numbers : List ℕ}
+pub carried-within : {A : Type 0} (carried : List Entry → List A) (width : ℕ) → carried [] ≡ [] → (s start : List ℕ) (p q : ℕ) (plan : List A) {answer : Answer ℕ} {numbers : List ℕ}
     → WrittenWithin s start p q (length plan / width) answer numbers
     → write_call carried width s start p q plan ≡ record { reply = write_reply answer; plan = carried (take (entry_count answer) (entries_of numbers)) ++ drop (width * entry_count answer) plan }
 unfolding write_call write_reply entry_count

@@ -1,6 +1,6 @@
 -- The call check plan: its reply (document 01, "Plans" and the table of refusals; the depth: document 02, L8), and what is promised of it.
 -- A plan is a list of entries, however it is carried: as numbers, as structs or as bytes.
-use Rattle.std.specs.Prelude.{ℕ, ◌+◌, ◌*◌, ◌-◌, ◌≤◌, ◌<◌, ◌≡◌, ◌↔◌, not, List, [], ◌∷◌, ◌++◌, T}
+use Rattle.std.specs.Prelude.{ℕ, ◌+◌, ◌*◌, ◌-◌, ◌≤◌, ◌<◌, ◌≡◌, ◌↔◌, not, List, [], ◌∷◌, ◌++◌, T, Ok, Err}
 use Rattle.lts.specs.declared.Entry.{Entry}
 use Rattle.lts.specs.declared.Refusal.{Refusal}
 use Rattle.lts.specs.declared.Refusal.TheVariants.{Unsound}
@@ -9,18 +9,21 @@ use Rattle.lts.specs.Refinement.{coarsest}
 use Rattle.lts.specs.Rounds.{refuted_at}
 use Rattle.lts.specs.Strategy.{accepted, last_of}
 use Rattle.lts.specs.Depth.{depth_of, LastDepth}
-use Rattle.lts.specs.Rule.{Rule, ◌otherwise◌, Nothing, First, broken, checked, Reply, refused, given}
+use Rattle.lts.specs.Rule.{Rule, ◌otherwise◌, Nothing, First, broken, checked, Reply, refused, given, Answer}
 use Rattle.encoding.specs.Records.{header_of}
 use Rattle.encoding.specs.Denotation.{lts_of}
 use Rattle.relation.specs.Matrix.{relation_of}
 use Rattle.inputs.specs.Inputs.{input_rules}
-use Rattle.strategy.specs.declared.Verdict.{Verdict}
-use Rattle.strategy.specs.declared.Verdict.TheVariants.{Last, Refused}
+use Rattle.strategy.specs.declared.Accepted.{Accepted}
+
+-- the answer that accepts, with the last entry's pair and its depth
+abbrev pub accepted_with : ℕ → ℕ → ℕ → Answer Accepted
+accepted_with p q depth = Ok (record { p = p; q = q; depth = depth })
 
 -- the reply of each answer: the last entry's pair and its depth
-unfoldable pub check_reply : Verdict → Reply
-check_reply (Last p q depth) = given (p ∷ q ∷ depth ∷ [])
-check_reply (Refused r) = refused r
+unfoldable pub check_reply : Answer Accepted → Reply
+check_reply (Ok last) = given (last.p ∷ last.q ∷ last.depth ∷ [])
+check_reply (Err r) = refused r
 
 -- the start that the words hold, on the sheet's states; and the pairs that coarsest keeps from it, with this turn list
 abbrev pub start_of : List ℕ → List ℕ → Rel

@@ -1,23 +1,21 @@
 -- The call write plan: what it replies and leaves in its buffer (document 01, "Plans" and the table of refusals), and what is promised of
 -- it. The buffer's elements are numbers, entries or bytes; an entry takes `width` of them.
-use Rattle.std.specs.Prelude.{ℕ, ◌*◌, ◌/◌, ◌≤◌, ◌<◌, ◌≡◌, ◌↔◌, not, List, [], ◌∷◌, ◌++◌, T, leb, length, take, drop}
+use Rattle.std.specs.Prelude.{ℕ, ◌*◌, ◌/◌, ◌≤◌, ◌<◌, ◌≡◌, ◌↔◌, not, List, [], ◌∷◌, ◌++◌, T, leb, length, take, drop, Ok, Err}
 use Rattle.lts.specs.declared.Entry.{Entry}
 use Rattle.lts.specs.declared.Refusal.{Refusal}
 use Rattle.lts.specs.declared.Refusal.TheVariants.{StillRelated, Buffer}
 use Rattle.lts.specs.Rounds.{refuted_at, refutation_round}
 use Rattle.lts.specs.Strategy.{strategy, strategy_length}
-use Rattle.lts.specs.Rule.{Rule, ◌otherwise◌, Nothing, First, broken, checked, Reply, refused, given}
+use Rattle.lts.specs.Rule.{Rule, ◌otherwise◌, Nothing, First, broken, checked, Reply, refused, given, Answer}
 use Rattle.encoding.specs.Records.{header_of}
 use Rattle.encoding.specs.Denotation.{lts_of}
 use Rattle.inputs.specs.Inputs.{pair_rules}
-use Rattle.strategy.specs.declared.Written.{Written}
-use Rattle.strategy.specs.declared.Written.TheVariants.{Entries, Refused}
 use Rattle.strategy.specs.Check.{start_of, kept_pairs, check_call}
 
 -- the reply of each answer: the number of entries
-unfoldable pub write_reply : Written → Reply
-write_reply (Entries count) = given (count ∷ [])
-write_reply (Refused r) = refused r
+unfoldable pub write_reply : Answer ℕ → Reply
+write_reply (Ok count) = given (count ∷ [])
+write_reply (Err r) = refused r
 
 -- the reply, and the lent buffer afterwards
 pub record WriteOutcome (A : Type 0) : Type 0 where

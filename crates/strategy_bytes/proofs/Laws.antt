@@ -9,13 +9,13 @@ use Rattle.carry.specs.Carried.{number_of, digits, numbers_of, list_of, bytes_of
 use Rattle.carry.proofs.Laws.{numbers-length, numbers-at, bytes-length}
 use Rattle.lts.specs.declared.Entry.{Entry}
 use Rattle.lts.specs.Strategy.{entries_of, entry_numbers, blank}
-use Rattle.strategy.specs.declared.Written.{Written}
 use Rattle.strategy.specs.Write.{write_reply, write_call}
 use Rattle.strategy.proofs.Promise.{AllSmall, Carrier, numbers-carry, numbers-back}
 use Rattle.strategy.specs.Within.{entry_count, WrittenWithin}
 use Rattle.strategy.proofs.Entries.{length-entries, entry_read}
 use Rattle.strategy.proofs.Within.{carried-within}
 use Rattle.strategy_bytes.specs.Bytes.{entry_bytes, entries_of_bytes}
+use Rattle.lts.specs.Rule.{Answer}
 
 length-list : (bytes : List ℕ) → length (list_of bytes) ≡ length bytes / 2
 unfolding list_of
@@ -61,7 +61,7 @@ numbers-front (suc c) (p ∷ q ∷ a ∷ t ∷ xs) h =
 
 -- `numbers` are what a strategy was written into, with room for as many entries as the bytes have: storing the strategy's numbers is the
 -- call on the bytes
-pub stored-within : (s start : List ℕ) (p q : ℕ) (plan : List ℕ) {answer : Written} {numbers : List ℕ} → WrittenWithin s start p q (length plan / 8) answer numbers
+pub stored-within : (s start : List ℕ) (p q : ℕ) (plan : List ℕ) {answer : Answer ℕ} {numbers : List ℕ} → WrittenWithin s start p q (length plan / 8) answer numbers
     → (size : ℕ) → size ≡ 4 * entry_count answer → write_call entry_bytes 8 s start p q plan ≡ record { reply = write_reply answer; plan = stored 2 (take size numbers) plan }
 unfolding stored bytes_of entry_numbers
 stored-within s start p q plan {answer} {numbers} w size e =

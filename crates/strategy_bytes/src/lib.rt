@@ -22,20 +22,11 @@ fn entry_at(bytes: &[u8], i: usize) -> lts::Entry
 }
 
 // Check plan on bytes, of any length: the entries are judged one by one. Bytes past the last whole entry are ignored.
-pub fn check_bytes(s: &[u8], start: &[u64], plan: &[u8]) -> strategy::Verdict
+pub fn check_bytes(s: &[u8], start: &[u64], plan: &[u8]) -> Result<strategy::Accepted, lts::Refusal>
     ensures plan_value { check_call s.now start.now (entries_of_bytes plan.now) ≡ check_reply result }
     ensures check_promise { CheckPromise s.now start.now (entries_of_bytes plan.now) (check_reply result) }
 {
-    let reading = inputs::read_inputs(s, start);
-    let table = strategy_judge::load(s, reading);
-    let mut judged = [0u16; 65540];
-    let n = plan.len() / 8;
-    let mut at = 0;
-    while at < n {
-        strategy_judge::judge(&table, start, &mut judged, entry_at(plan, at));
-        at += 1;
-    }
-    strategy_judge::conclude(reading, &judged, n)
+    strategy_judge::check_each(s, start, plan.len() / 8, |i| entry_at(plan, i))
 }
 
 // Write plan on bytes: the strategy of the refuted pair (p, q). Bytes past it stay as they are.
@@ -45,7 +36,7 @@ pub fn write_bytes(
     p: usize,
     q: usize,
     plan: &mut [u8],
-) -> strategy::Written
+) -> Result<usize, lts::Refusal>
     ensures plan_value { write_call entry_bytes 8 s.now start.now p q plan.old
         ≡ record { reply = write_reply result; plan = plan.new } }
     ensures write_promise { WritePromise entries_of_bytes 8 s.now start.now p q plan.old
@@ -55,6 +46,6 @@ pub fn write_bytes(
     let answer = strategy::write_within(s, start, p, q, plan.len() / 8, &mut numbers);
     let count = strategy::entry_count(answer);
     let size = 4 * count;
-    carry::store_numbers(&numbers[..size], plan);
+    carry::store(&numbers[..size], plan);
     answer
 }

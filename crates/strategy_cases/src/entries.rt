@@ -1,8 +1,9 @@
-// Check plan and write plan on entry structs: `check_front` and `write_front` lend the front of an array of entries, and their proofs are walked.
+// Check plan and write plan on entry structs: `check_front` and `write_front` lend the front of an array of entries.
 ghost use Rattle.std.specs.Prelude.{◌+◌, ◌*◌, ◌≤◌, ◌<◌, length};
 
 use super::strategies;
-use case_files::{checksums, fields, output};
+use case_files::checksums::Checksum;
+use case_files::{fields, output};
 
 // Room for as many entries as a case has at most.
 type Room = [lts::Entry; 1024];
@@ -42,53 +43,47 @@ fn entries_of(numbers: &[u16]) -> Room {
     };
     let mut room = [blank; 1024];
     let count = count_of(numbers.len());
-    let mut i = 0;
-    while i < count {
+    for i in 0..count {
         room[i] = entry_of(numbers, i);
-        i += 1;
     }
     room
-}
-
-// The checksum after an entry's bytes more.
-fn add_entry(h: u64, e: lts::Entry) -> u64
-    requires { h < 1000000007 }
-    ensures { result < 1000000007 }
-{
-    let first = checksums::add_number(h, e.p);
-    let second = checksums::add_number(first, e.q);
-    let third = checksums::add_number(second, e.a);
-    checksums::add_number(third, e.t)
 }
 
 // The checksum of the bytes that the first entries carry.
 fn checksum(room: Room, count: usize) -> u64
     requires { count ≤ 1024 }
 {
-    let mut h = 0;
-    let mut i = 0;
-    while i < count {
-        h = add_entry(h, room[i]);
-        i += 1;
+    let mut all = Checksum::new();
+    for e in &room[..count] {
+        all = all
+            .add_number(e.p)
+            .add_number(e.q)
+            .add_number(e.a)
+            .add_number(e.t);
     }
-    h
+    all.sum()
 }
 
 // Check plan on the first entries.
-fn check_front(s: &[u8], start: &[u64], room: Room, count: usize) -> strategy::Verdict
+fn check_front(
+    s: &[u8],
+    start: &[u64],
+    room: Room,
+    count: usize,
+) -> Result<strategy::Accepted, lts::Refusal>
     requires { count ≤ 1024 }
 {
     strategy_entries::check_entries(s, start, &room[..count])
 }
 
-// Operation 10, check plan on entries: a sheet, a start and the numbers of the entries.
+// Check plan on entries: a sheet, a start and the numbers of the entries.
 pub fn run_check(s: &[u8], start: &[u64], numbers: &[u16]) {
     let room = entries_of(numbers);
     let count = count_of(numbers.len());
     strategies::put_verdict(check_front(s, start, room, count));
 }
 
-fn put_entries(answer: strategy::Written, room: Room, count: usize)
+fn put_entries(answer: Result<usize, lts::Refusal>, room: Room, count: usize)
     requires { count ≤ 1024 }
 {
     strategies::put_written(answer);
@@ -104,7 +99,7 @@ fn write_front(s: &[u8], start: &[u64], p: usize, q: usize, room: Room, count: u
     put_entries(answer, lent, count);
 }
 
-// Operation 11, write plan on entries: a sheet, a start, the numbers of the entries and a pair.
+// Write plan on entries: a sheet, a start, the numbers of the entries and a pair.
 pub fn run_write(s: &[u8], start: &[u64], numbers: &[u16]) {
     fields::begin_numbers(2);
     let p = fields::read_number();

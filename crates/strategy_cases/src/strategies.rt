@@ -2,29 +2,21 @@
 use case_files::{checksums, fields, output};
 
 // Writes the answer of a check.
-pub(crate) fn put_verdict(answer: strategy::Verdict) {
-    match answer {
-        strategy::Verdict::Last(p, q, depth) => {
-            output::put_three_values(p as u64, q as u64, depth as u64)
-        }
-        strategy::Verdict::Refused(r) => output::put_refused(r, 3),
-    }
+pub(crate) fn put_verdict(answer: Result<strategy::Accepted, lts::Refusal>) {
+    output::put_answer(answer.map(|last| [last.p as u64, last.q as u64, last.depth as u64]));
 }
 
 // Writes the answer where a strategy is written.
-pub(crate) fn put_written(answer: strategy::Written) {
-    match answer {
-        strategy::Written::Entries(count) => output::put_one_value(count as u64),
-        strategy::Written::Refused(r) => output::put_refused(r, 1),
-    }
+pub(crate) fn put_written(answer: Result<usize, lts::Refusal>) {
+    output::put_answer(answer.map(|count| [count as u64]));
 }
 
-// Operation 5, check plan on numbers: a sheet, a start and the numbers.
+// Check plan on numbers: a sheet, a start and the numbers.
 pub fn run_check(s: &[u8], start: &[u64], numbers: &[u16]) {
     put_verdict(strategy::check_strategy(s, start, numbers));
 }
 
-// Operation 6, write plan on numbers: a sheet, a start, the numbers and a pair.
+// Write plan on numbers: a sheet, a start, the numbers and a pair.
 pub fn run_write(s: &[u8], start: &[u64], numbers: &mut [u16]) {
     fields::begin_numbers(2);
     let p = fields::read_number();
@@ -33,7 +25,7 @@ pub fn run_write(s: &[u8], start: &[u64], numbers: &mut [u16]) {
     output::put(checksums::numbers(numbers));
 }
 
-// Operation 12, check plan on bytes: a sheet, a start and the bytes.
+// Check plan on bytes: a sheet, a start and the bytes.
 pub fn run_check_bytes(s: &[u8], start: &[u64]) {
     let mut bytes = [0u8; 8208];
     let n = fields::read_field(&mut bytes);
@@ -48,7 +40,7 @@ fn put_bytes(s: &[u8], start: &[u64], bytes: &mut [u8]) {
     output::put(checksums::bytes(bytes));
 }
 
-// Operation 13, write plan on bytes: a sheet, a start, the bytes and a pair.
+// Write plan on bytes: a sheet, a start, the bytes and a pair.
 pub fn run_write_bytes(s: &[u8], start: &[u64]) {
     let mut bytes = [0u8; 8208];
     let n = fields::read_field(&mut bytes);

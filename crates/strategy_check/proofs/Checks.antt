@@ -7,7 +7,7 @@ use mathlib.Core.List.{List, [], ◌∷◌, ◌++◌}
 use native.Mathlib.Omega.{arith}
 use native.Mathlib.Nat.{add-zero}
 use lib.Dec.{T, eqb, ltb}
-use lib.ListN.{length, get_or, set, replicate, length-set, length-replicate}
+use lib.ListN.{length, set, replicate, length-set, length-replicate}
 use borrow.Author.Tests.{ltb-true, eqb-true}
 use Rattle.lts.specs.declared.Entry.{Entry}
 use Rattle.lts.specs.Bounded.{list_below}
@@ -44,19 +44,24 @@ sound-below table start xs e p q a t ok h =
     (true-T _ (and-snd (ltb p (states_of table) && ltb q (states_of table)) (outside start p q a t || L.transition p a t && replies_held L xs e q a t) h)) in
     (ltb-true _ _ (and-fst (ltb p (states_of table)) (ltb q (states_of table)) both), ltb-true _ _ (and-snd (ltb p (states_of table)) (ltb q (states_of table)) both), low)
 
+module _ (L : Lts) (start : Rel) (xs : List ℕ) (e : ℕ) where
+  -- with the numbers as they were read
+  pub sound-read : {x : Entry} → x ≡ entry_of xs e → sound_over L start xs e x.p x.q x.a x.t ≡ sound_at L start xs e
+  unfolding sound_at entry_of
+  sound-read is = ap (λ (x : Entry). sound_over L start xs e x.p x.q x.a x.t) is
+
 module _ (L : Lts) (start : Rel) (xs : List ℕ) (e : ℕ) (marks : List ℕ) where
   pub marking-unsound : sound_at L start xs e ≡ false → Marking L start xs e marks 0 marks
   marking-unsound f = record { unsound = λ _. (refl, refl); own = λ t. absurd (clash t f); pair = λ t. absurd (clash t f) }
 
-  pub marking-sound : {mark p q a t : ℕ} {other : List ℕ} → sound_at L start xs e ≡ true
-      → p ≡ get_or xs (4 * e) 0 → q ≡ get_or xs (4 * e + 1) 0 → a ≡ get_or xs (4 * e + 2) 0 → t ≡ get_or xs (4 * e + 3) 0
+  pub marking-sound : {mark p q a t : ℕ} {x : Entry} {other : List ℕ} → x ≡ entry_of xs e → sound_at L start xs e ≡ true
+      → p ≡ x.p → q ≡ x.q → a ≡ x.a → t ≡ x.t
       → mark ≡ entry_mark L (mark_of marks) q a t → other ≡ set marks (256 * p + q) (lowered (mark_of marks p q) mark % 65536)
       → Marking L start xs e marks mark other
-  unfolding entry_of
-  marking-sound u ep eq ea et m o = record {
+  marking-sound is u ep eq ea et m o = record {
     unsound = λ f. absurd (clash u f);
-    own = λ _. rw (← eq, ← ea, ← et) m;
-    pair = λ _. rw (← ep, ← eq) o;
+    own = λ _. rw (← is, ← eq, ← ea, ← et) m;
+    pair = λ _. rw (← is, ← ep, ← eq) o;
   }
 
 -- ---- the mark of a strategy

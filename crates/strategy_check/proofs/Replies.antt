@@ -15,7 +15,7 @@ use Rattle.transitions.specs.Table.{states_of, offset_at, action_at, target_at, 
 use Rattle.transitions.proofs.Entries.{InRow, Between, row_below, row-transition, transition-row}
 use Rattle.relation.specs.Matrix.{relation_of}
 use Rattle.transitions.proofs.Lookups.{no_target}
-use Rattle.strategy_check.specs.Entries.{holds_pair, held_before, replies_held, outside, sound_over, sound_at}
+use Rattle.strategy_check.specs.Entries.{holds_pair, held_before, replies_held, outside, sound_over}
 
 implies-of : (a b : Bool) → (a ≡ true → b ≡ true) → (a ⇒ b) ≡ true
 implies-of true b f = f refl
@@ -101,10 +101,3 @@ module _ (table g xs : List ℕ) (e p q a t : ℕ) {n : ℕ} (states : n ≡ sta
 
       pub unsound-t : Formed table → n ≤ t → false ≡ verdict
       unsound-t ok h = unsound-transition (no_target table ok p a t (omega (arith, states, h)))
-
--- with the numbers as they were read
-pub sound-read : (L : Lts) (start : Rel) (xs : List ℕ) (e : ℕ) {p q a t : ℕ}
-    → p ≡ get_or xs (4 * e) 0 → q ≡ get_or xs (4 * e + 1) 0 → a ≡ get_or xs (4 * e + 2) 0 → t ≡ get_or xs (4 * e + 3) 0
-    → sound_over L start xs e p q a t ≡ sound_at L start xs e
-unfolding sound_at
-sound-read L start xs e ep eq ea et = rw (ep, eq, ea, et)

@@ -1,4 +1,5 @@
 // The check of a strategy (document 01, "Check plan") on a transition table: entries in a slice of 16-bit numbers, four an entry.
+// A mark of 0, and not an `Option`, says that there is none: `Marking` and `strategy_mark` of specs/ are of marks as numbers.
 #![tactic(auto)]
 
 ghost use Rattle.std.specs.Prelude.{◌≡◌, ◌+◌, ◌*◌, ◌<◌, ◌≤◌, length, T};
@@ -6,14 +7,14 @@ ghost use Rattle.lts.specs.System.{reflexive};
 ghost use Rattle.lts.specs.Strategy.{entries_of};
 ghost use Rattle.transitions.specs.Table.{states_of, table_lts, Formed};
 ghost use Rattle.relation.specs.Matrix.{relation_of, Matrix};
-ghost use Rattle.strategy_check.specs.Entries.{holds_pair, replies_held, outside, sound_over, strategy_mark, Marking};
+ghost use Rattle.strategy_check.specs.Entries.{entry_of, holds_pair, replies_held, outside, sound_over, strategy_mark, Marking};
 
 // Whether entry j holds the pair (t, r).
 fn holds_pair(numbers: &[u16], j: usize, t: usize, r: usize) -> bool
     requires { 4 * j + 4 ≤ length numbers.now }
     ensures { result ≡ holds_pair numbers.now t r j }
 {
-    (rows::wide(numbers[4 * j]) == t) & (rows::wide(numbers[4 * j + 1]) == r)
+    (usize::from(numbers[4 * j]) == t) & (usize::from(numbers[4 * j + 1]) == r)
 }
 
 // Whether each transition q, a, r has its pair (t, r) in an entry before number e. The search for a reply stops at the first that holds it.
@@ -52,22 +53,37 @@ pub fn is_outside(n: usize, start: &[u64], p: usize, q: usize, a: usize, t: usiz
     (a == 0) & (t == 0) & !relation::relates(start, n, p, q)
 }
 
-// Whether the entry p, q, a, t is sound over the entries before number e.
+// Entry number e.
+fn entry_at(numbers: &[u16], e: usize) -> lts::Entry
+    requires { 4 * e + 4 ≤ length numbers.now }
+    ensures { result ≡ entry_of numbers.now e }
+{
+    let i = 4 * e;
+    lts::Entry {
+        p: numbers[i],
+        q: numbers[i + 1],
+        a: numbers[i + 2],
+        t: numbers[i + 3],
+    }
+}
+
+// Whether the entry is sound over the entries before number e.
 fn is_sound(
     table: &transitions::Table,
     start: &[u64],
     numbers: &[u16],
     e: usize,
-    p: usize,
-    q: usize,
-    a: usize,
-    t: usize,
+    entry: lts::Entry,
 ) -> bool
     requires { Formed table.now × Matrix (states_of table.now) start.now × (4 * e + 4 ≤ length numbers.now) }
     ensures { let R = relation_of (states_of table.now) start.now in
-        result ≡ sound_over (table_lts table.now) R numbers.now e p q a t }
+        result ≡ sound_over (table_lts table.now) R numbers.now e entry.p entry.q entry.a entry.t }
 {
     let n = transitions::states(table);
+    let p = usize::from(entry.p);
+    let q = usize::from(entry.q);
+    let a = usize::from(entry.a);
+    let t = usize::from(entry.t);
     if n <= p {
         return false;
     }
@@ -98,14 +114,19 @@ fn mark_at(
     ensures { let R = relation_of (states_of table.now) start.now in
         Marking (table_lts table.now) R numbers.now e marks.old result marks.new }
 {
-    let p = rows::wide(numbers[4 * e]);
-    let q = rows::wide(numbers[4 * e + 1]);
-    let a = rows::wide(numbers[4 * e + 2]);
-    let t = rows::wide(numbers[4 * e + 3]);
-    if !is_sound(table, start, numbers, e, p, q, a, t) {
+    let entry = entry_at(numbers, e);
+    if !is_sound(table, start, numbers, e, entry) {
         return 0;
     }
-    let mark = strategy_depth::entry_mark(table, marks, q, a, t);
+    let p = usize::from(entry.p);
+    let q = usize::from(entry.q);
+    let mark = strategy_depth::entry_mark(
+        table,
+        marks,
+        q,
+        usize::from(entry.a),
+        usize::from(entry.t),
+    );
     strategy_depth::lower(marks, p, q, mark);
     mark
 }
@@ -121,13 +142,11 @@ pub fn check_table(table: &transitions::Table, start: &[u64], numbers: &[u16]) -
     let count = numbers.len() / 4;
     let mut marks = [0u16; 65536];
     let mut last = 0;
-    let mut e = 0;
-    while e < count {
+    for e in 0..count {
         last = mark_at(table, start, numbers, e, &mut marks);
         if last == 0 {
             return 0;
         }
-        e += 1;
     }
     last
 }

@@ -6,33 +6,25 @@ use mathlib.Core.Bool.{Bool, true, false, cond, not, ◌&&◌, ◌||◌}
 use mathlib.Core.List.{List, [], ◌∷◌}
 use native.Mathlib.Omega.{arith}
 use native.Mathlib.Nat.{not-suc-le-zero}
-use lib.Dec.{T, eqb, ltb, eqb→eq, eqb-suc-zero}
-use borrow.Author.Tests.{ltb-true, ltb-false}
+use lib.Dec.{T, eqb, eqb→eq, eqb-suc-zero}
+use borrow.Author.Tests.{eq-eqb, ne_eqb}
 use Rattle.lts.specs.declared.Entry.{Entry}
 use Rattle.lts.specs.System.{Lts}
 use Rattle.lts.specs.Strategy.{holds}
 use Rattle.lts.specs.Depth.{Measured, depths_at, least, least_depth, measure, measured}
 use Rattle.lts.proofs.Bounded.{not_iff, test-ext}
-use Rattle.lts.proofs.Below.{neither}
 use Rattle.lts.proofs.Depth.{Below}
 use Rattle.strategy_depth.specs.Marks.{lowered, mark_after}
 
 -- ---- the lower of two marks
 module _ (old mark : ℕ) where
-  pub lower-new : eqb old 0 || ltb mark old ≡ true → mark ≡ lowered old mark
+  pub lowered-none : old ≡ 0 → mark ≡ lowered old mark
   unfolding lowered
-  lower-new e = go (eqb old 0) e
-    where
-      go : (b : Bool) → b || ltb mark old ≡ true → mark ≡ cond b mark (min old mark)
-      go true f = refl
-      go false f = omega (arith, ltb-true mark old f)
+  lowered-none z = sym (ap (λ (b : Bool). cond b mark (min old mark)) (eq-eqb old 0 z))
 
-  pub lower-old : eqb old 0 || ltb mark old ≡ false → old ≡ lowered old mark
+  pub lowered_some : (old ≡ 0 → ⊥) → min old mark ≡ lowered old mark
   unfolding lowered
-  lower-old e =
-      let c = neither (eqb old 0) (ltb mark old) e in
-      let least : min old mark ≡ old = omega (arith, ltb-false mark old c.1) in
-      sym (ap (λ (b : Bool). cond b mark (min old mark)) c.0 ∙ least)
+  lowered_some h = sym (ap (λ (b : Bool). cond b mark (min old mark)) (ne_eqb old 0 h))
 
   lowered-some : 0 < mark → 0 < lowered old mark
   unfolding lowered

@@ -120,23 +120,23 @@ module _ (table : List ℕ) (marks : ℕ → ℕ → ℕ) (q a t : ℕ) where
   seen_none i l = record { some = omega arith; small = omega arith; covers = between_none _ _ _ l; taken = inl refl }
 
   pub seen_more : (i d : ℕ) {m : ℕ} → Seen table marks q a t i d → offset_at table q ≤ i → m ≡ reply_mark table marks a t i → (m ≡ 0 → ⊥) → m < 65536
-      → Seen table marks q a t (i + 1) (max d m)
-  seen_more i d {m} s low e h l = record {
-    some = omega (arith, s.some);
-    small = omega (arith, s.small, l);
-    covers = between_more _ _ _ (λ x u v. ((s.covers x u v).0, omega (arith, (s.covers x u v).1))) (omega (arith, e, h), omega (arith, e));
+      → {top : ℕ} → top ≡ max d m → Seen table marks q a t (i + 1) top
+  seen_more i d {m} s low e h l {top} is = record {
+    some = omega (arith, s.some, is);
+    small = omega (arith, s.small, l, is);
+    covers = between_more _ _ _ (λ x u v. ((s.covers x u v).0, omega (arith, (s.covers x u v).1, is))) (omega (arith, e, h), omega (arith, e, is));
     taken = go (dec_le m d) (ℕ_discrete (action_at table i) a);
   }
     where
       old : m ≤ d → (d ≡ 1) ⊎ ((x : ℕ) × (offset_at table q ≤ x) × (x < i) × (action_at table x ≡ a) × (d ≡ marks t (target_at table x)))
-          → (max d m ≡ 1) ⊎ ((x : ℕ) × (offset_at table q ≤ x) × (x < i + 1) × (action_at table x ≡ a) × (max d m ≡ marks t (target_at table x)))
-      old k (inl z) = inl (omega (arith, k, z))
-      old k (inr x) = inr (x.0, x.1, omega (arith, x.2), x.3, omega (arith, k, x.4))
+          → (top ≡ 1) ⊎ ((x : ℕ) × (offset_at table q ≤ x) × (x < i + 1) × (action_at table x ≡ a) × (top ≡ marks t (target_at table x)))
+      old k (inl z) = inl (omega (arith, k, z, is))
+      old k (inr x) = inr (x.0, x.1, omega (arith, x.2), x.3, omega (arith, k, x.4, is))
 
       go : Dec (m ≤ d) → Dec (action_at table i ≡ a)
-          → (max d m ≡ 1) ⊎ ((x : ℕ) × (offset_at table q ≤ x) × (x < i + 1) × (action_at table x ≡ a) × (max d m ≡ marks t (target_at table x)))
+          → (top ≡ 1) ⊎ ((x : ℕ) × (offset_at table q ≤ x) × (x < i + 1) × (action_at table x ≡ a) × (top ≡ marks t (target_at table x)))
       go (yes k) c = old k s.taken
-      go (no k) (yes c) = inr (i, low, omega arith, c, omega (arith, k, e, mark-own table marks a t i c refl refl))
+      go (no k) (yes c) = inr (i, low, omega arith, c, omega (arith, k, e, is, mark-own table marks a t i c refl refl))
       go (no k) (no c) = absurd (k (omega (arith, s.some, e, mark-other table marks a t i c)))
 
   module _ (ok : Formed table) (hq : q < states_of table) where

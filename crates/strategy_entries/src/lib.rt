@@ -26,10 +26,8 @@ fn copy_in(plan: &mut [lts::Entry], c: usize, numbers: &[u16])
     requires { (c ≤ length plan.old) × (4 * c ≤ length numbers.now) }
     ensures { plan.new ≡ take c (entries_of numbers.now) ++ drop c plan.old }
 {
-    let mut i = 0;
-    while i < c {
+    for i in 0..c {
         plan[i] = entry_of(numbers, i);
-        i = i + 1;
     }
 }
 
@@ -40,7 +38,7 @@ pub fn write_entries(
     p: usize,
     q: usize,
     plan: &mut [lts::Entry],
-) -> strategy::Written
+) -> Result<usize, lts::Refusal>
     ensures plan_value { write_call itself 1 s.now start.now p q plan.old
         ≡ record { reply = write_reply result; plan = plan.new } }
     ensures write_promise { WritePromise itself 1 s.now start.now p q plan.old (write_reply result) plan.new }
@@ -53,18 +51,13 @@ pub fn write_entries(
 }
 
 // Check plan on a lent slice of entries, of any length: they are judged one by one.
-pub fn check_entries(s: &[u8], start: &[u64], plan: &[lts::Entry]) -> strategy::Verdict
+pub fn check_entries(
+    s: &[u8],
+    start: &[u64],
+    plan: &[lts::Entry],
+) -> Result<strategy::Accepted, lts::Refusal>
     ensures plan_value { check_call s.now start.now plan.now ≡ check_reply result }
     ensures check_promise { CheckPromise s.now start.now plan.now (check_reply result) }
 {
-    let reading = inputs::read_inputs(s, start);
-    let table = strategy_judge::load(s, reading);
-    let mut judged = [0u16; 65540];
-    let n = plan.len();
-    let mut at = 0;
-    while at < n {
-        strategy_judge::judge(&table, start, &mut judged, plan[at]);
-        at = at + 1;
-    }
-    strategy_judge::conclude(reading, &judged, n)
+    strategy_judge::check_each(s, start, plan.len(), |i| plan[i])
 }

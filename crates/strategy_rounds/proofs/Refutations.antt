@@ -17,6 +17,7 @@ use Rattle.lts.proofs.Step.{On}
 use Rattle.lts.proofs.Rounds.{round-states, round-contains, next-iff, refuted-out, refuted-once}
 use Rattle.relation.specs.Matrix.{pair_count}
 use Rattle.lts.proofs.Below.{either, true-T, lowest-is, lowest-none, sum-cong}
+use Rattle.std.specs.Prelude.{Some, None}
 use Rattle.strategy_rounds.specs.Rounds.{RefutationOf}
 
 -- ---- counts
@@ -122,14 +123,14 @@ module _ (L : Lts) (start : Rel) where
 
     -- ---- the three answers of the search
 
-    pub falls-first : (p q : ℕ) → W zero p q ≡ false → RefutationOf L start p q (record { round = 0; count = 1 })
+    pub falls-first : (p q : ℕ) → W zero p q ≡ false → RefutationOf L start p q (Some (record { round = 0; count = 1 }))
     unfolding refutation_round strategy_length refuted_at sum_below
     falls-first p q e =
         let r = lowest-is (suc (n * n)) (λ j. refuted_at L start j p q) 0 (suc-le-suc zero-le) (ap not e) (λ i h. absurd (omega (arith, h))) in
-        record { round = r; count = λ _. ap (λ (j : ℕ). suc (sum_below j (refuted_count L start))) r }
+        record { round = r; bound = zero-le; count = ap (λ (j : ℕ). suc (sum_below j (refuted_count L start))) r }
 
     pub falls-later : (p q j left : ℕ) → p < n → q < n → W j p q ≡ true → W (suc j) p q ≡ false → left ≡ pair_count n (W j) → left + j ≤ n * n
-        → RefutationOf L start p q (record { round = j + 1; count = n * n - left + 1 })
+        → RefutationOf L start p q (Some (record { round = j + 1; count = n * n - left + 1 }))
     unfolding refutation_round strategy_length refuted_at
     falls-later p q j left hp hq here gone count room =
         let falls : refuted_at L start (suc j) p q ≡ true = rw (here, gone) in
@@ -140,19 +141,18 @@ module _ (L : Lts) (start : Rel) where
         let c : n * n - left + 1 ≡ suc (sum_below (suc j) (refuted_count L start)) = omega (arith, total, count, room) in
         record {
           round = add-one j ∙ r;
-          count = λ _. c ∙ ap (λ (i : ℕ). suc (sum_below i (refuted_count L start))) r;
+          bound = omega (arith, below);
+          count = c ∙ ap (λ (i : ℕ). suc (sum_below i (refuted_count L start))) r;
         }
       where
         once : (i : ℕ) → i < suc j → refuted_at L start (suc j) p q ≡ true → (refuted_at L start i p q ≡ true) ⊎ (refuted_at L start i p q ≡ false) → refuted_at L start i p q ≡ false
         once i h falls (inr f) = f
         once i h falls (inl u) = absurd (let same = refuted-once L wf start i (suc j) p q (true-T _ u) (true-T _ falls) in omega (arith, h, same))
 
-    pub falls-never : (p q j : ℕ) → W j p q ≡ true → pair_count n (W (suc j)) ≡ pair_count n (W j) → RefutationOf L start p q (record { round = n * n + 1; count = 0 })
+    pub falls-never : (p q j : ℕ) → W j p q ≡ true → pair_count n (W (suc j)) ≡ pair_count n (W j) → RefutationOf L start p q None
     unfolding refutation_round
-    falls-never p q j here same = record {
-      round = add-one (n * n) ∙ lowest-none (suc (n * n)) (λ i. refuted_at L start i p q) (λ i _. never j same p q (true-T _ here) i);
-      count = λ h. absurd (omega (arith, h));
-    }
+    falls-never p q j here same =
+        let none = lowest-none (suc (n * n)) (λ i. refuted_at L start i p q) (λ i _. never j same p q (true-T _ here) i) in omega (arith, none)
 
 pub square-most : (n : ℕ) → n ≤ 256 → n * n ≤ 65536
 square-most n h = mul-le-mul h h

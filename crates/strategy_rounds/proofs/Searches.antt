@@ -17,10 +17,12 @@ use Rattle.transitions.specs.Table.{states_of, table_lts, Formed}
 use Rattle.transitions.proofs.Entries.{table-formed}
 use Rattle.relation.specs.Matrix.{relation_of, matrix_of, Matrix, pair_count}
 use Rattle.relation.proofs.Matrices.{relation-of, matrix-relation, matrix-small, matrix_of-cong}
+use Rattle.std.specs.Prelude.{Some, None}
+use Rattle.lts.proofs.Below.{true-T}
 use Rattle.strategy_rounds.specs.Rounds.{next_round, Settled, same_rows, RefutationOf}
 use Rattle.strategy_rounds.proofs.Steps.{round-inside}
 use Rattle.strategy_rounds.proofs.Settling.{settled-none, settled-next}
-use Rattle.strategy_rounds.proofs.Refutations.{pairs-cong, refuted-before, pairs-fall, falls-first, falls-later, falls-never}
+use Rattle.strategy_rounds.proofs.Refutations.{pairs-cong, refuted-before, pairs-fall, pairs-some, falls-first, falls-later, falls-never}
 
 -- a matrix on the states of a table has at most 1,024 words
 pub words-most : {t g : List ℕ} → Formed t → Matrix (states_of t) g → length g ≤ 1024
@@ -74,7 +76,7 @@ module _ (t : List ℕ) (ok : Formed t) (start : List ℕ) where
     -- ---- the start
 
     module _ (matrix : Matrix n start) (fits : (i : ℕ) → get_or start i 0 < 2 ^ 64) {has : Bool} (read : has ≡ relation_of states start p q) where
-      pub falls-at-first : has ≡ false → RefutationOf L R p q (record { round = 0; count = 1 })
+      pub falls-at-first : has ≡ false → RefutationOf L R p q (Some (record { round = 0; count = 1 }))
       falls-at-first gone = falls-first L R wf p q (sym (related-is es 0 (round-zero matrix fits) p q hp hq read) ∙ gone)
 
       pub search-starts : has ≡ true → {left : ℕ} → left ≡ pair_count states (relation_of states start) → Searching t start p q 0 left start (replicate {A = ℕ} 4 0)
@@ -89,28 +91,35 @@ module _ (t : List ℕ) (ok : Formed t) (start : List ℕ) where
             settles = settled-none t ok R;
           }
 
+    -- a related pair is left in each round, so that there is none after n * n rounds
+    pub search-ends : {j left : ℕ} {current settled : List ℕ} → Searching t start p q j left current settled → states * states ≤ j → RefutationOf L R p q None
+    unfolding table_lts
+    search-ends {j} s most =
+        let some = pairs-some L R j p q hp hq (true-T _ s.related) in
+        let full = subst (λ (k : ℕ). k * k ≤ j) es most in
+        absurd (omega (arith, some, full, s.count, s.room))
+
     -- ---- a round
 
     module _ {j left : ℕ} {current settled next : List ℕ} (s : Searching t start p q j left current settled) (made : next ≡ matrix_of n (next_round L (restrict n (relation_of n current)))) where
       pub falls-later-on : {has : Bool} → has ≡ relation_of states next p q → has ≡ false
-          → RefutationOf L R p q (record { round = j + 1; count = states * states - left + 1 })
+          → RefutationOf L R p q (Some (record { round = j + 1; count = states * states - left + 1 }))
       unfolding table_lts
       falls-later-on read gone =
           let after = sym (related-is es (j + 1) (round-next j s.here made) p q hp hq read) ∙ gone in
           let found = falls-later L R wf p q j left hp hq s.related (ap (λ (i : ℕ). round L R i p q) (sym (add-one j)) ∙ after) s.count s.room in
-          subst (λ (k : ℕ). RefutationOf L R p q (record { round = j + 1; count = k * k - left + 1 })) (sym es) found
+          subst (λ (k : ℕ). RefutationOf L R p q (Some (record { round = j + 1; count = k * k - left + 1 }))) (sym es) found
 
       module _ {rest : ℕ} (counted : rest ≡ pair_count states (relation_of states next)) where
         count : rest ≡ pair_count n (round L R (suc j))
         count = count-is es (j + 1) (round-next j s.here made) counted ∙ ap (λ (i : ℕ). pair_count n (round L R i)) (add-one j)
 
-        pub falls-at-none : rest ≡ left → RefutationOf L R p q (record { round = states * states + 1; count = 0 })
+        pub falls-at-none : rest ≡ left → RefutationOf L R p q None
         unfolding table_lts
-        falls-at-none same = subst (λ (k : ℕ). RefutationOf L R p q (record { round = k * k + 1; count = 0 })) (sym es)
-            (falls-never L R wf p q j s.related (sym count ∙ same ∙ s.count))
+        falls-at-none same = falls-never L R wf p q j s.related (sym count ∙ same ∙ s.count)
 
         module _ (other : rest ≡ left → ⊥) where
-          pub fewer : rest < left
+          fewer : rest < left
           unfolding table_lts
           fewer = let fall = pairs-fall L R j in let most : rest ≤ left = omega (arith, fall, count, s.count) in go (eq-or-lt_of_le most)
             where

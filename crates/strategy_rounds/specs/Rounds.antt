@@ -1,5 +1,5 @@
 -- What the calls on rounds give.
-use Rattle.std.specs.Prelude.{ℕ, ◌*◌, ◌≤◌, ◌<◌, ◌≡◌, true, not, ◌&&◌, List}
+use Rattle.std.specs.Prelude.{ℕ, ◌*◌, ◌≤◌, ◌<◌, ◌≡◌, true, not, ◌&&◌, List, Option, MatchOption}
 use Rattle.std.specs.Bool.{xor}
 use Rattle.lts.specs.Bounded.{any_below}
 use Rattle.lts.specs.System.{Set, Rel, Lts, into, answered}
@@ -22,7 +22,12 @@ Settled t W X =
 unfoldable pub same_rows : ℕ → Rel → Rel → Set
 same_rows n A B p = not (any_below n (λ q. xor (A p q) (B p q)))
 
--- r is the round at which (p, q) falls, with the number of entries of its strategy where it falls
-pub record RefutationOf (L : Lts) (start : Rel) (p q : ℕ) (r : Refutation) : Type 0 where
+-- r is the round at which (p, q) falls, with the number of entries of its strategy
+pub record FallsAt (L : Lts) (start : Rel) (p q : ℕ) (r : Refutation) : Type 0 where
   pub round : r.round ≡ refutation_round L start p q
-  pub count : r.round ≤ L.states * L.states → r.count ≡ strategy_length L start p q
+  pub bound : r.round ≤ L.states * L.states
+  pub count : r.count ≡ strategy_length L start p q
+
+-- the refutation of (p, q), and none exactly where it falls at no round
+abbrev pub RefutationOf : Lts → Rel → ℕ → ℕ → Option Refutation → Type 0
+RefutationOf L start p q r = MatchOption r (L.states * L.states < refutation_round L start p q) (FallsAt L start p q)

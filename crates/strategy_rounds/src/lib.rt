@@ -35,12 +35,10 @@ pub fn next_round(table: &transitions::Table, current: &[u64], next: &mut [u64],
 {
     let k = transitions::count(table);
     relation::copy_matrix(next, current);
-    let mut i = 0;
-    while i < k {
+    for i in 0..k {
         if !rows::contains(settled, transitions::target(table, i)) {
             keep_answering(table, current, next, i);
         }
-        i += 1;
     }
 }
 
@@ -51,8 +49,7 @@ pub fn same_rows(n: usize, before: &[u64], after: &[u64]) -> [u64; 4]
 {
     let w = rows::row_words(n);
     let mut out = [0u64; 4];
-    let mut p = 0;
-    while p < n {
+    for p in 0..n {
         if !rows::row_differs(
             relation::row_at(before, n, p),
             relation::row_at(after, n, p),
@@ -60,26 +57,25 @@ pub fn same_rows(n: usize, before: &[u64], after: &[u64]) -> [u64; 4]
         ) {
             rows::insert(&mut out, p);
         }
-        p += 1;
     }
     out
 }
 
-// The round at which a pair falls, n * n + 1 where it falls at none, and the number of entries of its strategy.
+// The round at which a pair falls, and the number of entries of its strategy.
 #[derive(Clone, Copy)]
 pub struct Refutation {
     pub round: usize,
     pub count: usize,
 }
 
-// The refutation of (p, q), from W0 in `current`.
+// The refutation of (p, q), from W0 in `current`. Each round but the last drops a pair, so there are at most n * n of them.
 fn search_rounds(
     table: &transitions::Table,
     current: &mut [u64],
     next: &mut [u64],
     p: usize,
     q: usize,
-) -> Refutation
+) -> Option<Refutation>
     requires formed { Formed table.now × Matrix (states_of table.now) current.old × (length current.old ≡ length next.old) }
     requires p_bound { (p < states_of table.now) × (q < states_of table.now) }
     ensures { RefutationOf (table_lts table.now) (relation_of (states_of table.now) current.old) p q result }
@@ -87,30 +83,26 @@ fn search_rounds(
     let n = transitions::states(table);
     let mut left = relation::count_pairs(current, n);
     if !relation::relates(current, n, p, q) {
-        return Refutation { round: 0, count: 1 };
+        return Some(Refutation { round: 0, count: 1 });
     }
     let mut settled = [0u64; 4];
-    let mut j = 0;
-    loop {
+    for j in 0..n * n {
         next_round(table, current, next, &settled);
         if !relation::relates(next, n, p, q) {
-            return Refutation {
+            return Some(Refutation {
                 round: j + 1,
                 count: n * n - left + 1,
-            };
+            });
         }
         let rest = relation::count_pairs(next, n);
         if rest == left {
-            return Refutation {
-                round: n * n + 1,
-                count: 0,
-            };
+            break;
         }
         settled = same_rows(n, current, next);
         relation::copy_matrix(current, next);
         left = rest;
-        j += 1;
     }
+    None
 }
 
 // The refutation of (p, q), with two matrices to work in.
@@ -121,7 +113,7 @@ fn refute_in(
     next: &mut [u64],
     p: usize,
     q: usize,
-) -> Refutation
+) -> Option<Refutation>
     requires formed { Formed table.now × Matrix (states_of table.now) start.now × (p < states_of table.now) × (q < states_of table.now) }
     requires start_len { (length start.now ≡ length current.old) × (length start.now ≡ length next.old) }
     ensures { RefutationOf (table_lts table.now) (relation_of (states_of table.now) start.now) p q result }
@@ -130,8 +122,8 @@ fn refute_in(
     search_rounds(table, current, next, p, q)
 }
 
-// The round at which (p, q) falls, and the number of entries of its strategy.
-pub fn refute(table: &transitions::Table, start: &[u64], p: usize, q: usize) -> Refutation
+// The round at which (p, q) falls, and the number of entries of its strategy; none where it falls at no round.
+pub fn refute(table: &transitions::Table, start: &[u64], p: usize, q: usize) -> Option<Refutation>
     requires { Formed table.now × Matrix (states_of table.now) start.now × (p < states_of table.now) × (q < states_of table.now) }
     ensures { RefutationOf (table_lts table.now) (relation_of (states_of table.now) start.now) p q result }
 {

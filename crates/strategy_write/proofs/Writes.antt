@@ -92,14 +92,14 @@ module _ (d : List ℕ) (first : ℕ) (f : ℕ → List Entry) where
 
 -- ---- one entry
 
-pub pair-first : (L : Lts) (W : Rel) (p q : ℕ) {initial : Bool} → initial ≡ true → p ∷ q ∷ 0 ∷ 0 ∷ [] ≡ entry_numbers (entry_from L initial W p q ∷ [])
-unfolding entry_numbers entry_from
-pair-first L W p q e = rw e
+pub entry-first : (L : Lts) (W : Rel) (p q : ℕ) {initial : Bool} → initial ≡ true → (record { p = p; q = q; a = 0; t = 0 }) ≡ entry_from L initial W p q
+unfolding entry_from
+entry-first L W p q e = rw e
 
-pub pair-later : (t : List ℕ) (W : Rel) (p q r : ℕ) {initial : Bool} {a x : ℕ} → initial ≡ false → Unanswered t W p q r → a ≡ action_at t r → x ≡ target_at t r
-    → p ∷ q ∷ a ∷ x ∷ [] ≡ entry_numbers (entry_from (table_lts t) initial W p q ∷ [])
-unfolding entry_numbers entry_from table_lts
-pair-later t W p q r e u ea ex = rw (e, ea, ex, u.target, u.action)
+pub entry-later : (t : List ℕ) (W : Rel) (p q r : ℕ) {initial : Bool} {a x : ℕ} → initial ≡ false → Unanswered t W p q r → a ≡ action_at t r → x ≡ target_at t r
+    → (record { p = p; q = q; a = a; t = x }) ≡ entry_from (table_lts t) initial W p q
+unfolding entry_from table_lts
+entry-later t W p q r e u ea ex = rw (e, ea, ex, u.target, u.action)
 
 -- the entries of a pair that leaves B for A, and of one that does not
 module _ (L : Lts) (initial : Bool) (B A : Rel) (p q : ℕ) where

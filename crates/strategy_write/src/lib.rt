@@ -11,164 +11,125 @@ ghost use Rattle.relation.specs.Matrix.{relation_of, matrix_of, Matrix};
 ghost use Rattle.strategy_write.specs.Writing.{pairs_of, Consecutive, entry_from, cell_entries, row_entries, round_entries, WrittenBefore};
 
 // Writes one entry.
-fn put_entry(numbers: &mut [u16], at: usize, p: u16, q: u16, a: u16, t: u16)
+fn put_entry(numbers: &mut [u16], at: usize, entry: lts::Entry)
     requires { 4 * (at + 1) ≤ length numbers.old }
-    ensures { numbers.new ≡ sets numbers.old (4 * at) (p ∷ q ∷ a ∷ t ∷ []) }
+    ensures { numbers.new ≡ sets numbers.old (4 * at) (entry_numbers (entry ∷ [])) }
 {
     let i = 4 * at;
-    numbers[i] = p;
-    numbers[i + 1] = q;
-    numbers[i + 2] = a;
-    numbers[i + 3] = t;
+    numbers[i] = entry.p;
+    numbers[i + 1] = entry.q;
+    numbers[i + 2] = entry.a;
+    numbers[i + 3] = entry.t;
 }
 
-// Writes the entry of (p, q), which leaves `before`; at round 0 with a = t = 0.
-fn write_pair(
+// The entry of (p, q), which leaves `before`; at round 0 with a = t = 0.
+fn entry_from(
     table: &transitions::Table,
     before: &[u64],
     initial: bool,
     p: usize,
     q: usize,
-    numbers: &mut [u16],
-    at: usize,
-)
+) -> lts::Entry
     requires fact { let n = states_of table.now in
-        Formed table.now × Matrix n before.now × (p < n) × (q < n) × (4 * (at + 1) ≤ length numbers.old) }
+        Formed table.now × Matrix n before.now × (p < n) × (q < n) }
     requires q_value { initial ≡ false → answered (table_lts table.now) (pairs_of table.now before.now) p q ≡ false }
-    ensures { let t = table.now in
-        let e = entry_from (table_lts t) initial (pairs_of t before.now) p q in
-        numbers.new ≡ sets numbers.old (4 * at) (entry_numbers (e ∷ [])) }
+    ensures { result ≡ entry_from (table_lts table.now) initial (pairs_of table.now before.now) p q }
 {
     if initial {
-        put_entry(numbers, at, p as u16, q as u16, 0, 0);
-        return;
+        return lts::Entry {
+            p: p as u16,
+            q: q as u16,
+            a: 0,
+            t: 0,
+        };
     }
     let i = conditions::first_unanswered(table, before, p, q);
-    put_entry(
-        numbers,
-        at,
-        p as u16,
-        q as u16,
-        transitions::action(table, i) as u16,
-        transitions::target(table, i) as u16,
-    );
+    lts::Entry {
+        p: p as u16,
+        q: q as u16,
+        a: transitions::action(table, i) as u16,
+        t: transitions::target(table, i) as u16,
+    }
+}
+
+// Two rounds, the one after the other. `initial`, a flag as in `Consecutive` of specs/, says that the first is that of all pairs.
+#[derive(Clone, Copy)]
+struct Step<'a> {
+    table: &'a transitions::Table,
+    before: &'a [u64],
+    after: &'a [u64],
+    initial: bool,
 }
 
 // Writes the entry of (p, q) if it is in `before` and not in `after`. Gives the place of the next entry.
-fn write_cell(
-    table: &transitions::Table,
-    before: &[u64],
-    after: &[u64],
-    initial: bool,
-    p: usize,
-    q: usize,
-    numbers: &mut [u16],
-    at: usize,
-) -> usize
-    requires consecutive { Consecutive table.now initial before.now after.now × (p < states_of table.now) × (q < states_of table.now) }
-    requires es_in_bounds { let t = table.now in
-        let es = cell_entries (table_lts t) initial (pairs_of t before.now) (pairs_of t after.now) p q in
+fn write_cell(step: &Step, p: usize, q: usize, numbers: &mut [u16], at: usize) -> usize
+    requires consecutive { let t = step.now.table.now in
+        Consecutive t step.now.initial step.now.before.now step.now.after.now × (p < states_of t) × (q < states_of t) }
+    requires es_in_bounds { let t = step.now.table.now in
+        let es = cell_entries (table_lts t) step.now.initial (pairs_of t step.now.before.now) (pairs_of t step.now.after.now) p q in
         4 * (at + length es) ≤ length numbers.old }
-    ensures result_value { let t = table.now in
-        result ≡ at + length (cell_entries (table_lts t) initial (pairs_of t before.now) (pairs_of t after.now) p q) }
-    ensures numbers_after { let t = table.now in
-        let es = cell_entries (table_lts t) initial (pairs_of t before.now) (pairs_of t after.now) p q in
+    ensures result_value { let t = step.now.table.now in
+        result ≡ at + length (cell_entries (table_lts t) step.now.initial (pairs_of t step.now.before.now) (pairs_of t step.now.after.now) p q) }
+    ensures numbers_after { let t = step.now.table.now in
+        let es = cell_entries (table_lts t) step.now.initial (pairs_of t step.now.before.now) (pairs_of t step.now.after.now) p q in
         numbers.new ≡ sets numbers.old (4 * at) (entry_numbers es) }
 {
-    let n = transitions::states(table);
-    if relation::relates(before, n, p, q) & !relation::relates(after, n, p, q) {
-        write_pair(table, before, initial, p, q, numbers, at);
+    let n = transitions::states(step.table);
+    if relation::relates(step.before, n, p, q) & !relation::relates(step.after, n, p, q) {
+        put_entry(
+            numbers,
+            at,
+            entry_from(step.table, step.before, step.initial, p, q),
+        );
         return at + 1;
     }
     at
 }
 
-// The same for row p.
-fn write_row(
-    table: &transitions::Table,
-    before: &[u64],
-    after: &[u64],
-    initial: bool,
-    p: usize,
-    numbers: &mut [u16],
-    first: usize,
-) -> usize
-    requires consecutive { Consecutive table.now initial before.now after.now × (p < states_of table.now) }
-    requires es_in_bounds { let t = table.now in
-        let es = row_entries (table_lts t) initial (pairs_of t before.now) (pairs_of t after.now) p in
+// The same for row p, which is often as it was.
+fn write_row(step: &Step, p: usize, numbers: &mut [u16], first: usize) -> usize
+    requires consecutive { let t = step.now.table.now in
+        Consecutive t step.now.initial step.now.before.now step.now.after.now × (p < states_of t) }
+    requires es_in_bounds { let t = step.now.table.now in
+        let es = row_entries (table_lts t) step.now.initial (pairs_of t step.now.before.now) (pairs_of t step.now.after.now) p in
         4 * (first + length es) ≤ length numbers.old }
-    ensures result_value { let t = table.now in
-        result ≡ first + length (row_entries (table_lts t) initial (pairs_of t before.now) (pairs_of t after.now) p) }
-    ensures numbers_after { let t = table.now in
-        let es = row_entries (table_lts t) initial (pairs_of t before.now) (pairs_of t after.now) p in
+    ensures result_value { let t = step.now.table.now in
+        result ≡ first + length (row_entries (table_lts t) step.now.initial (pairs_of t step.now.before.now) (pairs_of t step.now.after.now) p) }
+    ensures numbers_after { let t = step.now.table.now in
+        let es = row_entries (table_lts t) step.now.initial (pairs_of t step.now.before.now) (pairs_of t step.now.after.now) p in
         numbers.new ≡ sets numbers.old (4 * first) (entry_numbers es) }
 {
-    let n = transitions::states(table);
+    let n = transitions::states(step.table);
+    if !rows::row_differs(
+        relation::row_at(step.before, n, p),
+        relation::row_at(step.after, n, p),
+        rows::row_words(n),
+    ) {
+        return first;
+    }
     let mut at = first;
-    let mut q = 0;
-    while q < n {
-        at = write_cell(table, before, after, initial, p, q, numbers, at);
-        q += 1;
+    for q in 0..n {
+        at = write_cell(step, p, q, numbers, at);
     }
     at
 }
 
-// The same for row p, which is often as it was.
-fn write_changed_row(
-    table: &transitions::Table,
-    before: &[u64],
-    after: &[u64],
-    initial: bool,
-    p: usize,
-    numbers: &mut [u16],
-    first: usize,
-) -> usize
-    requires consecutive { Consecutive table.now initial before.now after.now × (p < states_of table.now) }
-    requires es_in_bounds { let t = table.now in
-        let es = row_entries (table_lts t) initial (pairs_of t before.now) (pairs_of t after.now) p in
-        4 * (first + length es) ≤ length numbers.old }
-    ensures result_value { let t = table.now in
-        result ≡ first + length (row_entries (table_lts t) initial (pairs_of t before.now) (pairs_of t after.now) p) }
-    ensures numbers_after { let t = table.now in
-        let es = row_entries (table_lts t) initial (pairs_of t before.now) (pairs_of t after.now) p in
-        numbers.new ≡ sets numbers.old (4 * first) (entry_numbers es) }
-{
-    let n = transitions::states(table);
-    if rows::row_differs(
-        relation::row_at(before, n, p),
-        relation::row_at(after, n, p),
-        rows::row_words(n),
-    ) {
-        return write_row(table, before, after, initial, p, numbers, first);
-    }
-    first
-}
-
 // The same for all rows.
-fn write_round(
-    table: &transitions::Table,
-    before: &[u64],
-    after: &[u64],
-    initial: bool,
-    numbers: &mut [u16],
-    first: usize,
-) -> usize
-    requires consecutive { Consecutive table.now initial before.now after.now }
-    requires es_in_bounds { let t = table.now in
-        let es = round_entries (table_lts t) initial (pairs_of t before.now) (pairs_of t after.now) in
+fn write_round(step: &Step, numbers: &mut [u16], first: usize) -> usize
+    requires consecutive { Consecutive step.now.table.now step.now.initial step.now.before.now step.now.after.now }
+    requires es_in_bounds { let t = step.now.table.now in
+        let es = round_entries (table_lts t) step.now.initial (pairs_of t step.now.before.now) (pairs_of t step.now.after.now) in
         4 * (first + length es) ≤ length numbers.old }
-    ensures result_value { let t = table.now in
-        result ≡ first + length (round_entries (table_lts t) initial (pairs_of t before.now) (pairs_of t after.now)) }
-    ensures numbers_after { let t = table.now in
-        let es = round_entries (table_lts t) initial (pairs_of t before.now) (pairs_of t after.now) in
+    ensures result_value { let t = step.now.table.now in
+        result ≡ first + length (round_entries (table_lts t) step.now.initial (pairs_of t step.now.before.now) (pairs_of t step.now.after.now)) }
+    ensures numbers_after { let t = step.now.table.now in
+        let es = round_entries (table_lts t) step.now.initial (pairs_of t step.now.before.now) (pairs_of t step.now.after.now) in
         numbers.new ≡ sets numbers.old (4 * first) (entry_numbers es) }
 {
-    let n = transitions::states(table);
+    let n = transitions::states(step.table);
     let mut at = first;
-    let mut p = 0;
-    while p < n {
-        at = write_changed_row(table, before, after, initial, p, numbers, at);
-        p += 1;
+    for p in 0..n {
+        at = write_row(step, p, numbers, at);
     }
     at
 }
@@ -190,13 +151,17 @@ fn write_rounds(
     let n = transitions::states(table);
     let mut settled = [0u64; 4];
     let mut at = 0;
-    let mut i = 0;
-    while i < rounds {
-        at = write_round(table, current, next, i == 0, numbers, at);
+    for i in 0..rounds {
+        let step = Step {
+            table,
+            before: current,
+            after: next,
+            initial: i == 0,
+        };
+        at = write_round(&step, numbers, at);
         relation::copy_matrix(current, next);
         strategy_rounds::next_round(table, current, next, &settled);
         settled = strategy_rounds::same_rows(n, current, next);
-        i += 1;
     }
     at
 }
@@ -225,7 +190,7 @@ fn write_from(
     relation::write_all_pairs(transitions::states(table), current);
     relation::copy_matrix(next, start);
     let at = write_rounds(table, current, next, round, numbers);
-    write_pair(table, current, round == 0, p, q, numbers, at);
+    put_entry(numbers, at, entry_from(table, current, round == 0, p, q));
 }
 
 // Writes the strategy of (p, q), which falls at round `round`.

@@ -1,13 +1,16 @@
 -- Maps, and the links between the states that go to one state. Assumes nothing.
-use Prim.Native.Nat.{ℕ, ◌+◌, ◌≤◌, ◌<◌}
+use Prim.Native.Nat.{ℕ, ◌+◌, ◌-◌, ◌≤◌, ◌<◌}
 use mathlib.Core.Path.{◌≡◌, refl, sym, ap, ◌∙◌, subst}
 use mathlib.Core.Bool.{Bool, true, false, ◌&&◌, ◌||◌, and-false}
 use mathlib.Core.List.{List}
 use native.Mathlib.Omega.{arith}
-use native.Mathlib.Nat.{le_refl, not-suc-le-zero, zero-add}
+use native.Mathlib.Nat.{le_refl, zero-add}
 use native.Mathlib.Decide.{ℕ_discrete}
 use lib.Dec.{eqb, ltb}
-use lib.ListN.{length, get_or, set, replicate, length-set, length-replicate, get_or-replicate}
+use lib.ListN.{length, get_or, set, take, drop, replicate, length-set, length-replicate, get_or-replicate}
+use borrow.Rule.Slice.PartMut.{put_mid, same_len_mid}
+use borrow.Author.Rules.{rules}
+use Rattle.std.proofs.lemmas.List.{places, length-take-le, length-drop, get_or-take, get_or-drop}
 use lib.Seq.{get_or-set_same, get_or-set_other}
 use borrow.Author.Tests.{eq-eqb, ne_eqb, eqb-true, lt-ltb, le-ltb, ltb-true}
 use Rattle.lts.specs.Bounded.{any_below}
@@ -18,46 +21,36 @@ use Rattle.transitions.specs.Maps.{state_to, action_to, Raises, goes_to, first_t
 
 -- ---- maps of actions, and maps that raise states
 
--- action a + 1 is as it is, too
-pub keeps-action : (to : List ℕ) (a : ℕ) → a < 64 → length to ≡ 65 → ((b : ℕ) → 1 ≤ b → b ≤ a → get_or to b 0 ≡ b)
-    → (b : ℕ) → 1 ≤ b → b ≤ a + 1 → get_or (set to (a + 1) (a + 1)) b 0 ≡ b
-keeps-action to a low long kept b l k = go (ℕ_discrete b (a + 1))
-  where
-    go : Dec (b ≡ a + 1) → get_or (set to (a + 1) (a + 1)) b 0 ≡ b
-    go (yes e) = rw e (get_or-set_same to (a + 1) (a + 1) 0 (omega (arith, low, long)))
-    go (no e) = get_or-set_other to (a + 1) b (a + 1) 0 e ∙ kept b l (omega (arith, k, e))
+-- in a list with a part replaced, what is before the part, and what is in it
+put-below : (at k i : ℕ) (xs ys : List ℕ) → i < at → at ≤ length xs → get_or (put_mid at k xs ys) i 0 ≡ get_or xs i 0
+put-below at k i xs ys l fits = search (rules, places)
 
-pub raises-start : {shift : ℕ} {to maps : List ℕ} → length maps ≡ 321 → Raises 0 0 shift to maps
-raises-start e = record { long = e; state = λ p l. absurd (not-suc-le-zero l); action = λ a l k. absurd (omega (arith, l, k)) }
+put-within : (at k i : ℕ) (xs ys : List ℕ) → i < length ys → at ≤ length xs → get_or (put_mid at k xs ys) (at + i) 0 ≡ get_or ys i 0
+put-within at k i xs ys l fits = search (rules, places)
 
-pub raises-state : {shift : ℕ} {to maps : List ℕ} (p : ℕ) → p < 256 → Raises p 0 shift to maps → Raises (p + 1) 0 shift to (set maps p (shift + p))
-raises-state {shift} {to} {maps} p low r = record {
-  long = length-set maps p (shift + p) ∙ r.long;
-  state = λ q l. go q (omega (arith, l)) (ℕ_discrete q p);
-  action = λ a l k. absurd (omega (arith, l, k));
+-- the actions 1 to m are put behind the states
+pub raises-actions : {n m shift : ℕ} {to maps new : List ℕ} (k j : ℕ) → k ≡ m → j ≡ m → n ≤ 256 → m ≤ 64 → length to ≡ 65
+    → new ≡ take j (drop 1 to) → Raises n 0 shift to maps → Raises n m shift to (put_mid 257 k maps new)
+raises-actions {n} {m} {shift} {to} {maps} {new} k j k-is j-is few low long is r = record {
+  long = same_len_mid 257 k maps new (omega (arith, size, length-take-le k (drop 257 maps) (omega (arith, length-drop 257 maps, r.long)))) ∙ r.long;
+  state = λ p l. put-below 257 k p maps new (omega arith) (omega (arith, r.long)) ∙ r.state p l;
+  action = λ a l u.
+      ap (λ (i : ℕ). get_or (put_mid 257 k maps new) i 0) (place a l)
+      ∙ put-within 257 k (a - 1) maps new (omega (arith, size)) (omega (arith, r.long))
+      ∙ ap (λ (x : List ℕ). get_or x (a - 1) 0) is
+      ∙ get_or-take j (drop 1 to) (a - 1) 0 (omega arith)
+      ∙ get_or-drop 1 to (a - 1) 0
+      ∙ ap (λ (i : ℕ). get_or to i 0) (number a l);
 }
   where
-    go : (q : ℕ) → q ≤ p → Dec (q ≡ p) → state_to (set maps p (shift + p)) q ≡ shift + q
-    go q l (yes e) = rw e (get_or-set_same maps p (shift + p) 0 (omega (arith, low, r.long)))
-    go q l (no e) = get_or-set_other maps p q (shift + p) 0 e ∙ r.state q (omega (arith, l, e))
+    size : length new ≡ m
+    size = ap length is ∙ length-take-le j (drop 1 to) (omega (arith, length-drop 1 to)) ∙ j-is
 
-pub raises-action : {n shift : ℕ} {to maps : List ℕ} (a : ℕ) → a < 64 → n ≤ 256 → Raises n a shift to maps
-    → Raises n (a + 1) shift to (set maps (256 + (a + 1)) (get_or to (a + 1) 0))
-raises-action {n} {shift} {to} {maps} a low few r = record {
-  long = length-set maps at new ∙ r.long;
-  state = λ q l. get_or-set_other maps at q new 0 (λ e. omega (arith, e, l, few)) ∙ r.state q l;
-  action = λ b l k. go b l (omega (arith, k)) (ℕ_discrete b (a + 1));
-}
-  where
-    at : ℕ
-    at = 256 + (a + 1)
+    place : (a : ℕ) → 1 ≤ a → 256 + a ≡ 257 + (a - 1)
+    place a l = omega arith
 
-    new : ℕ
-    new = get_or to (a + 1) 0
-
-    go : (b : ℕ) → 1 ≤ b → b ≤ a + 1 → Dec (b ≡ a + 1) → action_to (set maps at new) b ≡ get_or to b 0
-    go b l k (yes e) = rw e (get_or-set_same maps at new 0 (omega (arith, low, r.long)))
-    go b l k (no e) = get_or-set_other maps at (256 + b) new 0 (λ f. e (omega (arith, f))) ∙ r.action b l (omega (arith, k, e))
+    number : (a : ℕ) → 1 ≤ a → 1 + (a - 1) ≡ a
+    number a l = omega arith
 
 -- n states and the actions 1 to m are as they are
 pub record Keeps (n m : ℕ) (maps : List ℕ) : Type 0 where
@@ -173,11 +166,6 @@ module _ {n : ℕ} {maps links : List ℕ} (p : ℕ) (g : Linking n maps (p + 1)
       next-at q u v (yes e) = rw (e, at_next, ← is) (g.first i low)
       next-at q u v (no e) =
           rw (at_other (256 + q) (λ f. omega (arith, f, low)) (λ f. e (omega (arith, f)))) (g.next q (omega (arith, u, e)) v)
-
-pub linking-done : {n : ℕ} {maps : List ℕ} {p : ℕ} {links : List ℕ} → Linking n maps p links → p ≡ 0 → Linked n maps links
-linking-done {n} {maps} {links = links} g e =
-    let h = subst (λ (x : ℕ). Linking n maps x links) e g in
-    record { first = h.first; next = λ q l. h.next q (omega arith) l }
 
 -- ---- a test of the states that go to one state, from one to the next
 

@@ -59,6 +59,8 @@ pub fn count(table: &Table) -> usize
     rows::wide(table[2])
 }
 
+// The next five look-ups differ in a constant and a bound; through a shared `number_at(table, MARKS + p)` none would be shorter.
+
 // The end mark of state p.
 pub fn mark(table: &Table, p: usize) -> usize
     requires { p < 256 }
@@ -114,7 +116,7 @@ fn put_state(table: &mut Table, p: usize, mark: u8, end: usize)
     requires { (p < 256) × (end < 65536) }
     ensures { table.new ≡ with_state table.old p mark end }
 {
-    table[MARKS + p] = mark as u16;
+    table[MARKS + p] = u16::from(mark);
     table[OFFSETS + (p + 1)] = end as u16;
 }
 
@@ -165,10 +167,8 @@ fn put_row(table: &mut Table, p: usize, used: u64, held: &mut [u64; 260], from: 
     ensures held_after { held.new ≡ row_of 260 (λ x. false) }
 {
     let mut at = from;
-    let mut left = used;
-    while left != 0 {
-        let a = u64::trailing_zeros(left) as usize + 1;
-        left = left & (left - 1);
+    for i in rows::ones(used) {
+        let a = i + 1;
         at = put_action(table, p, a, held, at);
         sets::put(held, a, [0u64; 4]);
     }
@@ -196,10 +196,8 @@ fn raise_states(maps: &mut Maps, n: usize, shift: usize)
     requires { (length maps.old ≡ 321) × (shift + n ≤ 256) }
     ensures { (to : List ℕ) → Raises n 0 shift to maps.new }
 {
-    let mut p = 0;
-    while p < n {
-        maps[p] = (shift + p) as u16;
-        p += 1;
+    for (p, to) in maps[..n].iter_mut().enumerate() {
+        *to = (shift + p) as u16;
     }
 }
 
@@ -208,10 +206,8 @@ pub fn keep_actions(to: &mut ActionMap, m: usize)
     requires { (length to.old ≡ 65) × (m ≤ 64) }
     ensures { (length to.new ≡ 65) × ((a : ℕ) → 1 ≤ a → a ≤ m → get_or to.new a 0 ≡ a) }
 {
-    let mut a = 0;
-    while a < m {
-        to[a + 1] = (a + 1) as u16;
-        a += 1;
+    for a in 1..=m {
+        to[a] = a as u16;
     }
 }
 
@@ -231,11 +227,7 @@ fn put_actions(maps: &mut Maps, to: &ActionMap, m: usize)
     ensures { (n shift : ℕ) → n ≤ 256 → Raises n 0 shift to.now maps.old
         → Raises n m shift to.now maps.new }
 {
-    let mut a = 0;
-    while a < m {
-        maps[256 + (a + 1)] = to[a + 1];
-        a += 1;
-    }
+    maps[257..257 + m].copy_from_slice(&to[1..=m]);
 }
 
 // The maps by which the states of a sheet go to those from `shift` on, and its actions where `to` says.
@@ -255,9 +247,7 @@ fn link(maps: &Maps, n: usize) -> Links
     ensures { Linked n maps.now result }
 {
     let mut links = [256u16; 512];
-    let mut p = n;
-    while p > 0 {
-        p -= 1;
+    for p in (0..n).rev() {
         let i = state_to(maps, p);
         links[256 + p] = links[i];
         links[i] = p as u16;
@@ -290,18 +280,16 @@ fn add_chain(s: &[u8], h: encoding::Header, p: usize, maps: &Maps, sets: &mut [u
     ensures covers { Covers result (chain_image maps.now s.now h p) }
 {
     let mut j = encoding::first_of(s, h, p);
-    let mut left = h.transitions + 1;
     let mut used: u64 = 0;
-    while left > 0 {
+    for _ in 0..h.transitions + 1 {
         if j == 0 {
             return used;
         }
         let r = encoding::known_transition(s, h, j);
-        let a = action_to(maps, r.action as usize);
+        let a = action_to(maps, usize::from(r.action));
         rows::insert(sets, 256 * a + state_to(maps, r.target));
-        used = used | (1 << (a - 1));
+        used |= 1 << (a - 1);
         j = r.next;
-        left -= 1;
     }
     used
 }
@@ -324,7 +312,7 @@ fn row_sets(
     let mut used: u64 = 0;
     let mut p = first_to(links, i);
     while p < 256 {
-        used = used | add_chain(s, h, p, maps, sets);
+        used |= add_chain(s, h, p, maps, sets);
         p = next_to(links, p);
     }
     used
@@ -377,10 +365,8 @@ fn load_rows(s: &[u8], h: encoding::Header, maps: &Maps, low: usize, high: usize
 {
     let links = link(maps, h.states);
     let mut sets = [0u64; 260];
-    let mut i = low;
-    while i < high {
+    for i in low..high {
         load_row(s, h, maps, &links, i, table, &mut sets);
-        i += 1;
     }
 }
 
@@ -445,14 +431,11 @@ pub fn terminating(table: &Table) -> [u64; 4]
     requires { Formed table.now }
     ensures { result ≡ row_of 4 (table_lts table.now).terminating }
 {
-    let n = states(table);
     let mut set = [0u64; 4];
-    let mut p = 0;
-    while p < n {
+    for p in 0..states(table) {
         if mark(table, p) == 1 {
             rows::insert(&mut set, p);
         }
-        p += 1;
     }
     set
 }
@@ -462,14 +445,11 @@ pub fn successors(table: &Table, p: usize, a: usize) -> [u64; 4]
     requires { Formed table.now × (p < states_of table.now) }
     ensures { result ≡ row_of 4 ((table_lts table.now).transition p a) }
 {
-    let end = offset(table, p + 1);
     let mut set = [0u64; 4];
-    let mut i = offset(table, p);
-    while i < end {
+    for i in offset(table, p)..offset(table, p + 1) {
         if action(table, i) == a {
             rows::insert(&mut set, target(table, i));
         }
-        i += 1;
     }
     set
 }
@@ -487,12 +467,9 @@ pub fn has_into(table: &Table, p: usize, a: usize, x: &[u64]) -> bool
     requires { Formed table.now × (p < states_of table.now) × (row_words (states_of table.now) ≤ length x.now) }
     ensures { result ≡ into (table_lts table.now) a (in_row x.now) p }
 {
-    let end = offset(table, p + 1);
     let mut found = false;
-    let mut i = offset(table, p);
-    while i < end {
-        found = found | enters_at(table, a, x, i);
-        i += 1;
+    for i in offset(table, p)..offset(table, p + 1) {
+        found |= enters_at(table, a, x, i);
     }
     found
 }
@@ -503,12 +480,9 @@ pub fn add_into(table: &Table, a: usize, x: &[u64], set: &mut [u64])
     ensures { set.new ≡ row_of (length set.old)
         (λ q. in_row set.old q || into (table_lts table.now) a (in_row x.now) q) }
 {
-    let k = count(table);
-    let mut i = 0;
-    while i < k {
+    for i in 0..count(table) {
         if enters_at(table, a, x, i) {
             rows::insert(set, source(table, i));
         }
-        i += 1;
     }
 }

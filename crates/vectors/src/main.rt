@@ -40,24 +40,24 @@ fn run_started(operation: u8, s: &[u8], start: &[u64]) {
 
 fn read_start(operation: u8, s: &[u8]) {
     let mut start = [0u64; 1025];
-    let n = fields::read_words(&mut start);
+    let n = fields::read_numbers(&mut start);
     run_started(operation, s, &start[..n]);
 }
 
 // Runs a call on a sheet. The call reads its further fields.
 fn run_case(operation: u8, s: &[u8]) {
     match operation {
-        1 => sheets::run_written(1, s),
-        2 => relations::run_start(2, s),
-        8 => sheets::run_compared(8, s),
+        1 => sheets::run_written(s, normal_form::normalise),
+        2 => relations::run_start(s, simulation::termination_preorder),
+        8 => sheets::run_compared(s, comparison::compare),
         9 => sheets::run_reading(s),
         14 => refinements::run_carried(s),
         15 => sheets::run_joined(s),
         16 => sheets::run_text(s),
-        17 => sheets::run_written(17, s),
-        18 => sheets::run_written(18, s),
-        19 => relations::run_start(19, s),
-        20 => sheets::run_compared(20, s),
+        17 => sheets::run_written(s, conversion::to_named),
+        18 => sheets::run_written(s, conversion::to_plain),
+        19 => relations::run_start(s, simulation::ready_preorder),
+        20 => sheets::run_compared(s, comparison::compare_ready),
         _ => read_start(operation, s),
     }
 }
@@ -81,8 +81,9 @@ fn run_next(number: u64) -> bool {
 }
 
 fn main() {
-    let mut number = 1;
-    while number < 65536 && run_next(number) {
-        number += 1;
+    for number in 1..65536 {
+        if !run_next(number) {
+            break;
+        }
     }
 }

@@ -2,13 +2,8 @@
 use case_files::{checksums, fields, output};
 
 // Writes the refusal with its record, the steps, the pairs and the blocks.
-fn put_answer(answer: coarsest::Answer) {
-    match answer {
-        coarsest::Answer::Done(c) => {
-            output::put_three_values(c.steps as u64, c.pairs as u64, c.blocks as u64)
-        }
-        coarsest::Answer::Refused(r) => output::put_refused(r, 3),
-    }
+fn put_answer(answer: Result<coarsest::Counts, lts::Refusal>) {
+    output::put_answer(answer.map(|c| [c.steps as u64, c.pairs as u64, c.blocks as u64]));
 }
 
 fn put_coarsest(
@@ -19,15 +14,16 @@ fn put_coarsest(
     representatives: &mut [u16],
 ) {
     put_answer(coarsest::coarsest(s, start, schedule, grid, representatives));
-    output::put_two(checksums::words(grid), checksums::numbers(representatives));
+    output::put(checksums::numbers(grid));
+    output::put(checksums::numbers(representatives));
 }
 
-// Operation 4, coarsest: a sheet, a start, a schedule, a grid and the representatives.
+// Coarsest: a sheet, a start, a schedule, a grid and the representatives.
 pub fn run_coarsest(s: &[u8], start: &[u64]) {
     let mut schedule = [0u16; 2048];
     let t = fields::read_numbers(&mut schedule);
     let mut grid = [0u64; 1025];
-    let m = fields::read_words(&mut grid);
+    let m = fields::read_numbers(&mut grid);
     let mut representatives = [0u16; 260];
     let n = fields::read_numbers(&mut representatives);
     put_coarsest(
@@ -47,7 +43,8 @@ fn put_carried(
     representatives: &mut [u8],
 ) {
     put_answer(coarsest_bytes::coarsest_on_bytes(s, start, schedule, grid, representatives));
-    output::put_two(checksums::bytes(grid), checksums::bytes(representatives));
+    output::put(checksums::bytes(grid));
+    output::put(checksums::bytes(representatives));
 }
 
 // Reads the grid and the representatives.
@@ -65,7 +62,7 @@ fn read_room(s: &[u8], start: &[u8], schedule: &[u8]) {
     );
 }
 
-// Operation 14, coarsest on bytes: the same fields.
+// Coarsest on bytes: the same fields.
 pub fn run_carried(s: &[u8]) {
     let mut start = [0u8; 8208];
     let m = fields::read_field(&mut start);

@@ -10,10 +10,6 @@ use Rattle.adjacency.proofs.Building.{all-put}
 use borrow.Author.Rules.{rules}
 use Rattle.adjacency.proofs.add_transition.Goals as goal
 
-pub add_to_row-requires : goal.add_to_row-requires
-add_to_row-requires c =
-    (search rules, search rules, search rules, search rules, c.requires.by_index (targets_place c.args.a c.args.p))
-
 pub add_to_row-requires-2 : goal.add_to_row-requires-2
 add_to_row-requires-2 c =
     let x = targets_place c.args.a c.args.p in

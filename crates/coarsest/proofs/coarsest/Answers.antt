@@ -6,6 +6,7 @@ use mathlib.Core.List.{List}
 use lib.Dec.{eqb}
 use lib.ListN.{length}
 use Rattle.encoding.specs.declared.Header.{Header}
+use Rattle.lts.proofs.Rule.{passed_on}
 use Rattle.inputs.proofs.Laws.{input-broken, input-kept, kept-ready}
 use Rattle.coarsest.proofs.Laws.{fit-lengths, unready, misfit, fitting, refusing, refining}
 use Rattle.coarsest.proofs.Promise.{promised}
@@ -13,7 +14,7 @@ use Rattle.coarsest.proofs.coarsest.Goals as goal
 
 pub matrix_words-requires : goal.matrix_words-requires
 matrix_words-requires c =
-    let k = input-kept c.args.s.now c.args.start.now (sym c.read_inputs-reading.ensures ∙ c.in-Readable.is) in
+    let k = input-kept c.args.s.now c.args.start.now (sym c.in_ok-h.ensures) in
     (kept-ready _ _ k.1 k.0).readable.recorded.sized.bounds.states
 
 -- the test of the lengths, with the words of a matrix by their definition
@@ -23,7 +24,7 @@ tested grid representatives n b e = subst (λ (w : ℕ). not (eqb (length grid) 
 
 pub returns-then-grid-matrix_words : goal.returns-then-grid-matrix_words
 returns-then-grid-matrix_words c =
-    let k = input-kept c.args.s.now c.args.start.now (sym c.read_inputs-reading.ensures ∙ c.in-Readable.is) in
+    let k = input-kept c.args.s.now c.args.start.now (sym c.in_ok-h.ensures) in
     let size = ap (λ (h : Header). h.states) k.1 in
     let taken = tested c.args.grid.now c.args.representatives.now _ true c.matrix_words.ensures.0 c.if-grid-matrix_words.true in
     let f = refusing c.args.s.now c.args.start.now c.args.schedule.now c.args.grid.now c.args.representatives.now (misfit c.args.s.now c.args.start.now c.args.grid.now c.args.representatives.now _ size k.0 taken) in
@@ -31,19 +32,20 @@ returns-then-grid-matrix_words c =
 
 pub refine_encoding-requires : goal.refine_encoding-requires
 refine_encoding-requires c =
-    let k = input-kept c.args.s.now c.args.start.now (sym c.read_inputs-reading.ensures ∙ c.in-Readable.is) in
+    let k = input-kept c.args.s.now c.args.start.now (sym c.in_ok-h.ensures) in
     let l = fit-lengths _ _ _ _ c.if-grid-matrix_words.false in
     record { ready = kept-ready _ _ k.1 k.0; grid_len = (l.0 ∙ c.matrix_words.ensures.0, l.1) }
 
-pub returns-in-Refused : goal.returns-in-Refused
-returns-in-Refused c =
-    let e = input-broken _ _ (sym c.read_inputs-reading.ensures ∙ c.in-Refused.is) in
+pub returns-in_err-h : goal.returns-in_err-h
+returns-in_err-h c =
+    let e = input-broken _ _ (sym c.in_err-h.ensures) in
     let f = refusing c.args.s.now c.args.start.now c.args.schedule.now c.args.grid.now c.args.representatives.now (unready c.args.s.now c.args.start.now c.args.schedule.now c.args.grid.now c.args.representatives.now e) in
-    record { representatives_value = f; coarsest_promise = promised c.args.s.now c.args.start.now c.args.schedule.now c.args.grid.now c.args.representatives.now _ _ _ f }
+    rw (passed_on _ c.from_residual.ensures.1)
+    (record { representatives_value = f; coarsest_promise = promised c.args.s.now c.args.start.now c.args.schedule.now c.args.grid.now c.args.representatives.now _ _ _ f })
 
-pub returns-else-grid-matrix_words : goal.returns-else-grid-matrix_words
-returns-else-grid-matrix_words c =
-    let k = input-kept c.args.s.now c.args.start.now (sym c.read_inputs-reading.ensures ∙ c.in-Readable.is) in
+pub returns : goal.returns
+returns c =
+    let k = input-kept c.args.s.now c.args.start.now (sym c.in_ok-h.ensures) in
     let size = ap (λ (h : Header). h.states) k.1 in
     let left = tested c.args.grid.now c.args.representatives.now _ false c.matrix_words.ensures.0 c.if-grid-matrix_words.false in
     let f = refining c.args.s.now c.args.start.now c.args.schedule.now c.args.grid.now c.args.representatives.now _ size (fitting c.args.s.now c.args.start.now c.args.grid.now c.args.representatives.now _ size k.0 left) ∙ c.refine_encoding.ensures in

@@ -2,24 +2,25 @@
 use mathlib.Core.Path.{ap}
 use native.Mathlib.Omega.{arith}
 use lib.ListN.{length}
-use borrow.Author.Rules.{rules}
+use Rattle.lts.proofs.Rule.{passed_on}
 use Rattle.carry.proofs.Bytes.{carried-fits}
 use Rattle.coarsest_bytes.proofs.Laws.{back-refused, back_done}
 use Rattle.coarsest_bytes.proofs.coarsest_in.Goals as goal
 
-pub store_words-requires : goal.store_words-requires
-store_words-requires c =
-    omega (arith, c.coarsest-answer.auto.grid, ap length c.requires.0, carried-fits 8 1024 c.args.grid.now)
+pub store-requires : goal.store-requires
+store-requires c =
+    omega (arith, c.coarsest.auto.grid, ap length c.requires.0, carried-fits 8 1024 c.args.grid.now)
 
-pub store_numbers-requires : goal.store_numbers-requires
-store_numbers-requires c =
-    omega (arith, c.coarsest-answer.auto.representatives, ap length c.requires.1, carried-fits 2 256 c.args.representatives.now)
+pub store-requires-2 : goal.store-requires-2
+store-requires-2 c =
+    omega (arith, c.coarsest.auto.representatives, ap length c.requires.1, carried-fits 2 256 c.args.representatives.now)
 
-pub returns-in-Refused : goal.returns-in-Refused
-returns-in-Refused c =
-    back-refused c.args.s.now c.args.start.now c.args.schedule.now c.args.grid.now c.args.representatives.now _ c.requires.0 c.requires.1 c.coarsest-answer.ensures.representatives_value c.in-Refused.is
+pub returns-in_err-counts : goal.returns-in_err-counts
+returns-in_err-counts c =
+    rw (passed_on _ c.from_residual.ensures.1)
+    (back-refused c.args.s.now c.args.start.now c.args.schedule.now c.args.grid.now c.args.representatives.now _ c.requires.0 c.requires.1 c.coarsest.ensures.representatives_value c.in_err-counts.was)
 
-pub returns-in-Done : goal.returns-in-Done
-returns-in-Done c =
-    back_done c.args.s.now c.args.start.now c.args.schedule.now c.args.grid.now c.args.representatives.now _ c.requires.0 c.requires.1 c.coarsest-answer.ensures.representatives_value c.in-Done.is
-    c.store_words.ensures c.store_numbers.ensures
+pub returns : goal.returns
+returns c =
+    back_done c.args.s.now c.args.start.now c.args.schedule.now c.args.grid.now c.args.representatives.now _ c.requires.0 c.requires.1 c.coarsest.ensures.representatives_value c.in_ok-counts.was
+    c.store.ensures c.store-2.ensures

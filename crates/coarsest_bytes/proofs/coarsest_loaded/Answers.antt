@@ -2,7 +2,6 @@
 use mathlib.Core.Path.{sym}
 use native.Mathlib.Omega.{arith}
 use lib.Seq.{length-take-le}
-use borrow.Author.Rules.{rules}
 use Rattle.coarsest_bytes.proofs.coarsest_loaded.Goals as goal
 
 pub load_grid-v-requires : goal.load_grid-v-requires

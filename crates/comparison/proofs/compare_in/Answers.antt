@@ -6,6 +6,7 @@ use Rattle.transitions.proofs.Entries.{table-formed}
 use Rattle.starts.specs.Start.{written_start}
 use Rattle.starts.proofs.Starts.{start-preorder}
 use Rattle.comparison.proofs.Runs.{size_is, start_is, started-reply, run-reply}
+use Rattle.comparison.specs.Call.{compare_reply}
 use Rattle.comparison.proofs.compare_in.Goals as goal
 
 pub relate-steps-requires : goal.relate-steps-requires
@@ -20,8 +21,8 @@ relates-requires c =
     (size_is (sym states) (c.relate-steps.auto.related ∙ c.requires.fact.1), omega (arith, states, c.requires.formed.0.states), omega (arith, states, c.requires.formed.0.some), omega (arith, states, c.requires.formed.1))
 
 pub returns : goal.returns
+unfolding compare_reply
 returns c =
     let t = c.args.table.now in
     started-reply (written_start c.args.ready) t _ c.write_start.ensures c.args.q
     ∙ run-reply (states_of t) _ c.args.q c.requires.formed.0.some c.requires.formed.1 c.relate-steps.ensures.related_after c.states-n.ensures.0 c.relates.ensures c.relate-steps.ensures.result_value
-    ∙ c.verdict.ensures

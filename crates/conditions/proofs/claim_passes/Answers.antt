@@ -1,24 +1,20 @@
--- `conditions::claim_passes` meets its contract: row by row. Assumes nothing.
-use mathlib.Core.Path.{sym, ◌∙◌}
-use native.Mathlib.Omega.{arith}
-use borrow.Author.Count.{below_none, below_more}
+-- `conditions::claim_passes` meets its contract: each row passes, by `all_range`. Assumes nothing.
+use Prim.Native.Nat.{ℕ}
+use mathlib.Core.Path.{ap, ◌∙◌}
+use Rattle.std.proofs.Common.{rules, tests}
+use Rattle.lts.specs.Bounded.{◌⇒◌, all_below}
 use Rattle.lts.specs.System.{all_states, within}
-use Rattle.lts.proofs.Below.{all_yes, all-not}
-use Rattle.transitions.specs.Table.{table_lts}
-use borrow.Author.Rules.{rules}
+use Rattle.lts.proofs.Ranges.{all_range}
+use Rattle.transitions.specs.Table.{states_of, table_lts}
+use Rattle.relation.specs.Matrix.{relation_of}
+use Rattle.conditions.specs.Conditions.{both_conditions}
 use Rattle.conditions.proofs.claim_passes.Goals as goal
-
-pub loop-p-init : goal.loop-p-init
-loop-p-init c = (search rules, below_none _)
-
-pub returns-then-not-row_passes : goal.returns-then-not-row_passes
-unfolding within all_states table_lts
-returns-then-not-row_passes c =
-    all-not _ _ c.loop-p.p (omega (arith, c.loop-p-test.true, c.states-n.ensures.0)) (sym c.row_passes.ensures ∙ c.if-not-row_passes.true)
-
-pub loop-p-preserved : goal.loop-p-preserved
-loop-p-preserved c = (search rules, below_more _ _ c.loop-p.invariant.1 (sym c.row_passes.ensures ∙ c.if-not-row_passes.false))
 
 pub returns : goal.returns
 unfolding within all_states table_lts
-returns c = all_yes _ _ (λ x h. c.loop-p.invariant.1 x (omega (arith, h, c.loop-p-test.false, c.states-n.ensures.0)))
+returns c =
+    let t = c.args.table.now in
+    let n = states_of t in
+    let R = relation_of n c.args.claim.now in
+    let row = λ (p : ℕ). all_below n (λ q. R p q ⇒ both_conditions (table_lts t) (relation_of n c.args.start.now) R p q) in
+    all_range _ row _ c.all.ensures.ran (λ x b q k. search (rules, tests)) ∙ ap (λ (m : ℕ). all_below m row) c.states.ensures.0

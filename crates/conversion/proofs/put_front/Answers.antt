@@ -1,14 +1,8 @@
 -- `conversion::put_front` meets its contract: the header, and in a named sheet the names behind it.
-use mathlib.Core.Path.{ap}
 use native.Mathlib.Omega.{arith}
 use lib.ListN.{length}
-use Rattle.encoding.specs.declared.Header.{Header}
 use Rattle.conversion.proofs.Written.{plain-front, named-front, names-room}
 use Rattle.conversion.proofs.put_front.Goals as goal
-
-pub put-requires : goal.put-requires
-put-requires c = let e = ap (λ (x : Header). x.states) c.of_kind.ensures in
-    (omega (arith, c.requires.1), omega (arith, e, c.requires.0.bounds.states))
 
 pub put_labels-requires : goal.put_labels-requires
 put_labels-requires c = let long = c.put.auto.out in

@@ -1,6 +1,8 @@
 -- `labels::join_labels` meets its contract: two plain sheets by number, others by label.
 use Rattle.encoding.specs.Labels.{labels_in}
-use mathlib.Core.Path.{sym, ◌∙◌}
+use Prim.Native.Nat.{max}
+use borrow.Author.Rules.{rules}
+use mathlib.Core.Path.{◌≡◌, sym, ◌∙◌}
 use Rattle.encoding.proofs.Labels.{labels_length_lem}
 use Rattle.labels.proofs.Labels.{plain-count, plain-matches}
 use mathlib.Core.Path.{ap}
@@ -12,7 +14,8 @@ returns-then-not-h-g c =
     let plain = (ap not c.if-not-h-g.true) in
     let bh = c.requires.0.recorded.sized.bounds in
     let bg = c.requires.1.recorded.sized.bounds in
-    record { value = c.larger.ensures ∙ plain-count c.args.first.now c.args.h c.args.second.now c.args.g bh bg plain; cases = plain-matches c.args.first.now c.args.h c.args.second.now c.args.g bh bg plain c.keep_actions.ensures.0 c.keep_actions.ensures.1 }
+    let larger : c.max.result ≡ max c.args.h.actions c.args.g.actions = search rules in
+    record { value = larger ∙ plain-count c.args.first.now c.args.h c.args.second.now c.args.g bh bg plain; cases = plain-matches c.args.first.now c.args.h c.args.second.now c.args.g bh bg plain c.keep_actions.ensures.0 c.keep_actions.ensures.1 }
 
 pub match_labels-requires : goal.match_labels-requires
 match_labels-requires c =

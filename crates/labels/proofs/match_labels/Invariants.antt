@@ -1,4 +1,4 @@
-use Prim.Native.Nat.{ℕ, ◌+◌, ◌≤◌, ◌-◌}
+use Prim.Native.Nat.{ℕ, ◌+◌, ◌≤◌}
 use mathlib.Core.Path.{◌≡◌}
 use mathlib.Core.List.{List}
 use lib.ListN.{length}
@@ -8,9 +8,8 @@ use Rattle.labels.proofs.Maps.{Matching}
 use Rattle.labels.proofs.match_labels.Given as goal
 
 abbrev pub invariant-loop-i : goal.invariant-loop-i
-invariant-loop-i l =
-    (l.i ≤ l.k) × (l.k ≡ l.h.actions) × (l.k ≤ 64) × (l.m ≤ 64) × (l.count ≤ l.m + l.i) × (length l.to ≡ 65)
-    × ((A : List (List ℕ)) → Indexed A l.index → l.m ≡ length A → Matching A (labels_in l.s l.h) l.i l.count l.to)
-
-abbrev pub decreases-loop-i : goal.decreases-loop-i
-decreases-loop-i l = l.k - l.i
+invariant-loop-i l = record {
+  counted : l.count ≤ l.m + l.i;
+  long : length l.to ≡ 65;
+  matching : (A : List (List ℕ)) → Indexed A l.index → l.m ≡ length A → Matching A (labels_in l.s l.h) l.i l.count l.to;
+}

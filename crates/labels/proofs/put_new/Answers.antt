@@ -1,6 +1,6 @@
 -- `labels::put_new` meets its contract: each new label behind those before it.
 use Prim.Native.Nat.{ℕ, ◌+◌}
-use mathlib.Core.Path.{refl, subst, sym, ap, ◌∙◌, subst⁻¹}
+use mathlib.Core.Path.{subst, sym, ap, ◌∙◌, subst⁻¹}
 use mathlib.Core.List.{List}
 use native.Mathlib.Omega.{arith}
 use lib.ListN.{take}
@@ -11,24 +11,13 @@ use Rattle.labels.proofs.Labels.{label-next, labels-whole}
 use Rattle.encoding.proofs.Labels.{labels_length_lem}
 use Rattle.encoding.proofs.Bytes.{label-sixteen}
 use Rattle.encoding.proofs.Laws.{sheet-labels}
-use lib.Seq.{length-sets}
 use Rattle.labels.proofs.Bytes.{begins-new, begins-old, number-low}
 use Rattle.lts.proofs.Labels.{joined-none}
-use borrow.Author.Rules.{rules}
 use Rattle.labels.proofs.put_new.Goals as goal
 use Rattle.labels.proofs.put_new.Goals.{then-m-a, else-m-a}
 
 pub loop-i-init : goal.loop-i-init
-loop-i-init c = (
-  search rules,
-  refl,
-  c.requires.0.recorded.sized.bounds.actions,
-  c.requires.1.1.long,
-  λ A j. subst (Begins _) (ap labels_bytes (sym (joined-none A (labels_in c.args.s.now c.args.h)))) j.front,
-)
-
-pub label-label-requires : goal.label-label-requires
-label-label-requires c = (c.requires.0.recorded.sized, search rules, search rules)
+loop-i-init c = λ A j. subst (Begins _) (ap labels_bytes (sym (joined-none A (labels_in c.args.s.now c.args.h)))) j.front
 
 pub put-requires : goal.put-requires
 put-requires c =
@@ -41,7 +30,7 @@ put-requires c =
 
 pub returns : goal.returns
 returns c = λ A j.
-    subst (λ (J : List (List ℕ)). Begins c.loop-i.out (labels_bytes (joined_labels A J))) (labels-whole c.args.s.now c.args.h c.loop-i.i (omega arith)) (c.loop-i.invariant.4 A j)
+    subst (λ (J : List (List ℕ)). Begins c.loop-i.out (labels_bytes (joined_labels A J))) (labels-whole c.args.s.now c.args.h c.loop-i.i (omega arith)) (c.loop-i.invariant A j)
 
 pub loop-i-preserved : goal.loop-i-preserved
 loop-i-preserved c =
@@ -51,27 +40,15 @@ loop-i-preserved c =
     let each = label-sixteen c.args.s.now c.args.h in
     let wide = c.wide-a.ensures.0 in
     elim c.if-m-a.branch [
-      | then-m-a w ↦
-          let e = w.out-is ∙ w.put.ensures in (
-            search rules,
-            refl,
-            search rules,
-            rw (e, length-sets) c.loop-i.invariant.3,
-            λ A j.
-                let number = wide ∙ j.matches.action (c.loop-i.i + 1) (omega arith) (omega (arith, n)) in
-                let low = number-low A B once c.loop-i.i (omega (arith, n)) number j.few in
-                subst⁻¹ (λ (x : List ℕ). Begins x (labels_bytes (joined_labels A (take (c.loop-i.i + 1) B)))) e
-                (begins-new A B once c.loop-i.i (omega (arith, n)) number j.each each (c.loop-i.invariant.4 A j) (omega (arith, j.count, w.if-m-a.true))
-                (label-next c.args.s.now c.args.h c.loop-i.i (omega arith) w.label-label.ensures) (omega (arith, low.0, low.1, c.loop-i.invariant.3))),
-          )
-      | else-m-a w ↦ (
-        search rules,
-        refl,
-        search rules,
-        rw w.out-is c.loop-i.invariant.3,
-        λ A j.
-            let number = wide ∙ j.matches.action (c.loop-i.i + 1) (omega arith) (omega (arith, n)) in
-            subst⁻¹ (λ (x : List ℕ). Begins x (labels_bytes (joined_labels A (take (c.loop-i.i + 1) B)))) w.out-is
-            (begins-old A B once c.loop-i.i (omega (arith, n)) number j.each each (c.loop-i.invariant.4 A j) (omega (arith, j.count, w.if-m-a.false))),
-      )
+      | then-m-a w ↦ λ A j.
+          let e = w.out-is ∙ w.put.ensures in
+          let number = wide ∙ j.matches.action (c.loop-i.i + 1) (omega arith) (omega (arith, n)) in
+          let low = number-low A B once c.loop-i.i (omega (arith, n)) number j.few in
+          subst⁻¹ (λ (x : List ℕ). Begins x (labels_bytes (joined_labels A (take (c.loop-i.i + 1) B)))) e
+          (begins-new A B once c.loop-i.i (omega (arith, n)) number j.each each (c.loop-i.invariant A j) (omega (arith, j.count, w.if-m-a.true))
+          (label-next c.args.s.now c.args.h c.loop-i.i (omega arith) w.label-label.ensures) (omega (arith, low.0, low.1, j.long)))
+      | else-m-a w ↦ λ A j.
+          let number = wide ∙ j.matches.action (c.loop-i.i + 1) (omega arith) (omega (arith, n)) in
+          subst⁻¹ (λ (x : List ℕ). Begins x (labels_bytes (joined_labels A (take (c.loop-i.i + 1) B)))) w.out-is
+          (begins-old A B once c.loop-i.i (omega (arith, n)) number j.each each (c.loop-i.invariant A j) (omega (arith, j.count, w.if-m-a.false)))
     ]

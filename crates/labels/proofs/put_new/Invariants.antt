@@ -1,7 +1,6 @@
-use Prim.Native.Nat.{ℕ, ◌≤◌, ◌-◌}
-use mathlib.Core.Path.{◌≡◌}
+use Prim.Native.Nat.{ℕ}
 use mathlib.Core.List.{List}
-use lib.ListN.{length, take}
+use lib.ListN.{take}
 use Rattle.lts.specs.Labels.{joined_labels}
 use Rattle.encoding.specs.Labels.{labels_in, labels_bytes}
 use Rattle.labels.specs.Maps.{Begins, Joining}
@@ -9,8 +8,4 @@ use Rattle.labels.proofs.put_new.Given as goal
 
 abbrev pub invariant-loop-i : goal.invariant-loop-i
 invariant-loop-i l =
-    (l.i ≤ l.k) × (l.k ≡ l.h.actions) × (l.k ≤ 64) × (length l.out ≡ 1024)
-    × ((A : List (List ℕ)) → Joining A (labels_in l.s l.h) l.m l.to l.initial.out → Begins l.out (labels_bytes (joined_labels A (take l.i (labels_in l.s l.h)))))
-
-abbrev pub decreases-loop-i : goal.decreases-loop-i
-decreases-loop-i l = l.k - l.i
+    (A : List (List ℕ)) → Joining A (labels_in l.s l.h) l.m l.to l.initial.out → Begins l.out (labels_bytes (joined_labels A (take l.i (labels_in l.s l.h))))

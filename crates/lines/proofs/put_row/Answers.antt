@@ -10,15 +10,15 @@ use Rattle.lines.proofs.put_row.Goals as goal
 pub loop-q-init : goal.loop-q-init
 loop-q-init c =
     let e = concat-none (related_text (relation_of c.args.n c.args.grid.now) c.args.p) in
-    (search rules, search rules, search rules, rw e (put-none c.args.from c.args.out.now))
+    (search rules, rw e (put-none c.args.from c.args.out.now))
 
 pub loop-q-preserved : goal.loop-q-preserved
 loop-q-preserved c =
     let e = concat-more (related_text (relation_of c.args.n c.args.grid.now) c.args.p) c.loop-q.q in
-    (search rules, search rules, search rules, rw e (put-more c.loop-q.invariant.3 (record { place = c.put_related-at.ensures.value; bytes = c.put_related-at.ensures.out_after }) (omega arith)))
+    (search rules, rw e (put-more c.loop-q.invariant.1 (record { place = c.put_related-at.ensures.value; bytes = c.put_related-at.ensures.out_after }) (omega arith)))
 
 pub returns : goal.returns
 returns c =
     let e : c.loop-q.q ≡ c.args.n = omega arith in
-    let w = rw e at c.loop-q.invariant.3 in
+    let w = rw e at c.loop-q.invariant.1 in
     record { value = w.place; out_after = w.bytes; upper_bound = omega arith }

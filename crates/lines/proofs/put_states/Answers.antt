@@ -8,25 +8,13 @@ use Rattle.lines.proofs.put_states.Goals as goal
 
 pub loop-p-init : goal.loop-p-init
 loop-p-init c = let e = lines_none c.args.n (relation_of c.args.n c.args.grid.now) c.args.representatives.now in
-    (search rules, search rules, search rules, rw e (put-none c.args.from c.args.out.now))
-
-pub overflow_cast-representatives : goal.overflow_cast-representatives
-overflow_cast-representatives c = omega (arith, c.type_inv.representatives c.loop-p.p)
-
-pub put_state-at-requires : goal.put_state-at-requires
-put_state-at-requires c = (
-  c.requires.0,
-  c.requires.2,
-  search rules,
-  omega (arith, c.type_inv.representatives c.loop-p.p),
-  omega (arith, c.requires.3, c.loop-p.invariant.1),
-)
+    (search rules, rw e (put-none c.args.from c.args.out.now))
 
 pub loop-p-preserved : goal.loop-p-preserved
 loop-p-preserved c = let e = lines_more c.args.n (relation_of c.args.n c.args.grid.now) c.args.representatives.now c.loop-p.p in
-    (search rules, search rules, omega (arith, c.put_state-at.ensures.upper_bound, c.loop-p.invariant.2), rw e (put-more c.loop-p.invariant.3 (record { place = c.put_state-at.ensures.value; bytes = c.put_state-at.ensures.out_after }) (omega arith)))
+    (omega (arith, c.put_state-at.ensures.upper_bound, c.loop-p.invariant.0), rw (e, ← c.from.ensures) (put-more c.loop-p.invariant.1 (record { place = c.put_state-at.ensures.value; bytes = c.put_state-at.ensures.out_after }) (omega arith)))
 
 pub returns : goal.returns
 returns c = let e : c.loop-p.p ≡ c.args.n = omega arith in
-    let w = rw (e, lines-all) at c.loop-p.invariant.3 in
+    let w = rw (e, lines-all) at c.loop-p.invariant.1 in
     record { value = w.place; out_after = w.bytes }

@@ -10,18 +10,18 @@ use Rattle.listing.proofs.put_flow.Goals as goal
 
 pub put_readable-requires : goal.put_readable-requires
 put_readable-requires c =
-    (readable_of (sym c.read_encoding-reading.ensures.value ∙ c.in-Readable.is), search rules)
+    (readable_of (sym c.in-Ok.ensures.value), search rules)
 
-pub returns-in-Refused : goal.returns-in-Refused
-returns-in-Refused c = let s = c.args.s.now in
-    let e = sym c.read_encoding-reading.ensures.value ∙ c.in-Refused.is in
+pub returns-in-Err : goal.returns-in-Err
+returns-in-Err c = let s = c.args.s.now in
+    let e = sym c.in-Err.ensures.value in
     let f = whole-first (flow_text s) c.args.out.now (refused-text s (sheet-broken s e)) c.put_refusal.ensures.value c.put_refusal.ensures.out_after in
     let most = text-most s in
     record { value = f.0; out_after = f.1; part = (search rules, f.0 ∙ ap length (sym f.2), f.2) }
 
-pub returns-in-Readable : goal.returns-in-Readable
-returns-in-Readable c = let s = c.args.s.now in
-    let e = sym c.read_encoding-reading.ensures.value ∙ c.in-Readable.is in
+pub returns-in-Ok : goal.returns-in-Ok
+returns-in-Ok c = let s = c.args.s.now in
+    let e = sym c.in-Ok.ensures.value in
     let f = whole-first (flow_text s) c.args.out.now (read-text s (sheet-kept s e).0) c.put_readable.ensures.value c.put_readable.ensures.out_after in
     let most = text-most s in
     record { value = f.0; out_after = f.1; part = (search rules, f.0 ∙ ap length (sym f.2), f.2) }

@@ -5,14 +5,14 @@ use Rattle.listing.proofs.put_in.Goals as goal
 
 pub put_result-requires : goal.put_result-requires
 put_result-requires c =
-    let e = c.in-Done.is in
-    (states-most c.requires.0.readable, flow-small c.requires.0 e c.refine-answer.ensures, search rules, search rules, search rules)
+    let e = c.in-Ok.is in
+    (states-most c.requires.0.readable, flow-small c.requires.0 e c.refine.ensures, search rules, search rules, search rules)
 
-pub returns-in-Done : goal.returns-in-Done
-returns-in-Done c =
-    let e = c.in-Done.is in
-    let t = flow-text c.requires.0 e c.refine-answer.ensures in
+pub returns-in-Ok : goal.returns-in-Ok
+returns-in-Ok c =
+    let e = c.in-Ok.is in
+    let t = flow-text c.requires.0 e c.refine.ensures in
     record { value = rw t at c.put_result.ensures.value; out_after = rw t at c.put_result.ensures.out_after }
 
-pub returns-in-Refused : goal.returns-in-Refused
-returns-in-Refused c = absurd (never-refused c.requires.0 c.in-Refused.is c.refine-answer.ensures)
+pub returns-in-Err : goal.returns-in-Err
+returns-in-Err c = absurd (never-refused c.requires.0 c.in-Err.is c.refine.ensures)

@@ -1,13 +1,7 @@
 -- `normal_form::table_state` meets its contract.
 use mathlib.Core.Path.{◌∙◌}
-use Rattle.normal_form.proofs.Written.{mark-byte, state-is}
-use borrow.Author.Rules.{rules}
+use Rattle.normal_form.proofs.Written.{state-is}
 use Rattle.normal_form.proofs.table_state.Goals as goal
-
-pub overflow_cast-mark : goal.overflow_cast-mark
-overflow_cast-mark c = let small = mark-byte c.args.table.now c.requires.0 c.args.p c.requires.1 in
-    let mark = c.mark-mark.ensures.0 in
-    search rules
 
 pub returns : goal.returns
 returns c = c.new.ensures

@@ -1,6 +1,5 @@
-use Prim.Native.Nat.{◌+◌, ◌-◌, ◌≤◌}
+use Prim.Native.Nat.{◌+◌}
 use mathlib.Core.Path.{◌≡◌}
-use lib.ListN.{length}
 use lib.Seq.{sets}
 use Rattle.encoding.specs.Records.{labels_length}
 use Rattle.transitions.specs.Table.{table_lts}
@@ -8,7 +7,4 @@ use Rattle.normal_form.specs.Normal.{states_bytes}
 use Rattle.normal_form.proofs.write_states.Given as goal
 
 abbrev pub invariant-loop-p : goal.invariant-loop-p
-invariant-loop-p l = (l.p ≤ l.n) × (length l.out ≡ length l.initial.out) × (l.out ≡ sets l.initial.out (6 + labels_length l.h) (states_bytes (table_lts l.table) l.p))
-
-abbrev pub decreases-loop-p : goal.decreases-loop-p
-decreases-loop-p l = l.n - l.p
+invariant-loop-p l = l.out ≡ sets l.initial.out (6 + labels_length l.h) (states_bytes (table_lts l.table) l.p)

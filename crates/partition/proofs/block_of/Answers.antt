@@ -16,7 +16,6 @@ use Rattle.rows.proofs.Rows.{row_of-cong, states-in}
 use Rattle.sets.proofs.Lists.{set-in, set_long}
 use Rattle.partition.specs.Pending.{Ordered}
 use Rattle.partition.proofs.Laws.{states-none, states-skip, states-take, states-same}
-use borrow.Author.Rules.{rules}
 use Rattle.partition.proofs.block_of.Goals.{At-loop-q, then-contains, else-contains}
 use Rattle.partition.proofs.block_of.Invariants.{Found}
 use Rattle.partition.proofs.block_of.Goals as goal
@@ -84,24 +83,6 @@ loop-q-init c =
 
 size : (c : At-loop-q) → length c.loop-q.out ≡ 4
 size c = set_long _ c.loop-q.invariant.members
-
-pub slice_bounds-insert-end : goal.slice_bounds-insert-end
-slice_bounds-insert-end c = sym (size (goal.at.slice_bounds-insert-end c).At-loop-q)
-
-pub insert-requires : goal.insert-requires
-insert-requires c = omega (arith, size (goal.at.insert-requires c).At-loop-q, c.loop-q-test.true)
-
-pub slice_bounds-next_state-end-in-loop-q : goal.slice_bounds-next_state-end-in-loop-q
-slice_bounds-next_state-end-in-loop-q c =
-    sym (elim c.if-contains.branch [ then-contains w ↦ ap length w.left-is ∙ c.loop-q.invariant.long | else-contains w ↦ set_long _ (w.left-is ∙ w.minus-rest.ensures) ])
-
-pub next_state-q-requires-in-loop-q : goal.next_state-q-requires-in-loop-q
-next_state-q-requires-in-loop-q c =
-    let long : length c.if-contains.left ≡ 4 = elim c.if-contains.branch [ then-contains w ↦ ap length w.left-is ∙ c.loop-q.invariant.long | else-contains w ↦ set_long _ (w.left-is ∙ w.minus-rest.ensures) ] in
-    (omega (arith, long), search rules, omega (arith, c.loop-q-test.true))
-
-pub loop-q-smaller : goal.loop-q-smaller
-loop-q-smaller c = omega (arith, c.next_state-q-in-loop-q.ensures.above, c.next_state-q-in-loop-q.ensures.below)
 
 pub returns : goal.returns
 returns c =

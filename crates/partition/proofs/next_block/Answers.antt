@@ -44,8 +44,8 @@ pub returns-then-step-schedule : goal.returns-then-step-schedule
 returns-then-step-schedule c =
     let S = in_row c.args.pending.now in
     let same : c.row_count.result ≡ length (passing 256 S) = c.row_count.ensures ∙ sym (length-passing 256 S) in
-    c.member_at.ensures ∙ ap (λ (k : ℕ). get_or (passing 256 S) (c.wide-e.result % k) 0) same
-    ∙ ap (λ (x : ℕ). get_or (passing 256 S) (x % length (passing 256 S)) 0) c.wide-e.ensures.0
+    c.member_at.ensures ∙ ap (λ (k : ℕ). get_or (passing 256 S) (c.from-e.result % k) 0) same
+    ∙ ap (λ (x : ℕ). get_or (passing 256 S) (x % length (passing 256 S)) 0) c.from-e.ensures
 
 pub returns : goal.returns
 returns c =

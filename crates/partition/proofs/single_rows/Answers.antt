@@ -38,9 +38,6 @@ module _ (P : Rel) (out out' : List ℕ) (g : ℕ) (long : length out ≡ 4)
 pub loop-g-init : goal.loop-g-init
 loop-g-init c = (search rules, λ x h hx hh s p. absurd (true≢false (sym s ∙ in_row-zeros 4 x)))
 
-pub returns : goal.returns
-returns c = c.loop-g.invariant.1
-
 pub loop-g-preserved : goal.loop-g-preserved
 loop-g-preserved c =
     let blocks = c.args.blocks.now in

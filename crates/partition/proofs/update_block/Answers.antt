@@ -30,4 +30,4 @@ pub returns-else-differ : goal.returns-else-differ
 returns-else-differ c =
     left_out (differs (set_at c.args.viewed.now) (set_at c.args.related.now) (lowest 256 (in_row c.args.block))) (lowest 256 (in_row c.args.block)) c.args.pending.now c.requires.2
     (sym (differs_at (set_at c.args.viewed.now) (set_at c.args.related.now) _ c.at.ensures c.at-2.ensures ∙ ap (differs (set_at c.args.viewed.now) (set_at c.args.related.now)) c.lowest_state-low.ensures) ∙ sym c.differ.ensures ∙ c.if-differ.false)
-    (λ j. (c.slice_known-1.given j).fits)
+    (λ j. (c.type_inv.pending j).fits)

@@ -19,7 +19,6 @@ use Rattle.sets.proofs.Lists.{set-in, set_long}
 use Rattle.sets.proofs.Sweep.{sweep-first, sweep-next, sweep-end}
 use Rattle.partition.specs.Pending.{pending_in}
 use Rattle.partition.proofs.Laws.{differs}
-use borrow.Author.Rules.{rules}
 use Rattle.partition.proofs.update_blocks.Invariants.{Updated, Right}
 use Rattle.partition.proofs.update_blocks.Goals as goal
 
@@ -119,22 +118,13 @@ module _ (K W P : Rel) (S : Set) (parted : Parted P S) (p : ℕ) (hp : p < 256) 
 update-end : (P : Rel) (New : Set) {pending left : List ℕ} {p : ℕ} → 256 ≤ p → Updated P New pending left p → pending ≡ row_of 4 New
 update-end P New {pending} {left} {p} end u = u.words ∙ row_of-cong 4 _ _ (λ q h. sweep-end (Right New pending) (in_row left) p end u.swept q h)
 
-pub row_minus-requires : goal.row_minus-requires
-row_minus-requires c = (omega (arith, c.loop-p.invariant.long), search rules)
-
-pub loop-p-smaller : goal.loop-p-smaller
-loop-p-smaller c = omega (arith, c.next_state-p-in-loop-p.ensures.above, c.next_state-p-in-loop-p.ensures.below, c.loop-p-test.true)
-
-pub shape_of-pending : goal.shape_of-pending
-shape_of-pending c = c.loop-p.invariant.long ∙ sym c.requires.related_len.3
-
 pub returns : goal.returns
 returns c =
     update-end (set_at c.args.blocks.now) (pending_in 256 (set_at c.args.related.now) (set_at c.args.viewed.now) (set_at c.args.blocks.now)) c.loop-p-test.false c.loop-p.invariant
 
 pub loop-p-init : goal.loop-p-init
 loop-p-init c =
-    update-first (set_at c.args.blocks.now) (pending_in 256 (set_at c.args.related.now) (set_at c.args.viewed.now) (set_at c.args.blocks.now)) c.requires.related_len.3 (λ j. (c.slice_known-1.given j).fits)
+    update-first (set_at c.args.blocks.now) (pending_in 256 (set_at c.args.related.now) (set_at c.args.viewed.now) (set_at c.args.blocks.now)) c.requires.related_len.3 (λ j. (c.type_inv.pending j).fits)
     c.requires.owned.1 c.requires.by_index c.next_state-p.ensures
 
 pub update_block-requires : goal.update_block-requires

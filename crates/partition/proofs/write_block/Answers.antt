@@ -56,12 +56,6 @@ module _ (n p : ℕ) (K : Rel) (ok : Ordered n K) (hn : p < n) (hp : p < 256) (w
           sets-in 256 _ before g h l u
           ∙ sym (ap (λ (b : Bool). b && block K g h) (in-written g l ∙ ap (λ (b : Bool). in_row written g || b) m ∙ or-false (in_row written g)))
 
-pub returns-then-contains : goal.returns-then-contains
-returns-then-contains c = record { blocks_after = c.requires.blocks_value; grown = record { long = c.requires.related_len.3; added = sym c.contains.ensures ∙ c.if-contains.true; kept = λ g h e. e } }
-
-pub block_of-members-requires : goal.block_of-members-requires
-block_of-members-requires c = let pre = c.requires.related_len in (pre.0, pre.1, (pre.2.0, pre.2.1))
-
 pub set_rows-requires : goal.set_rows-requires
 set_rows-requires c = sets-long 256 _ c.requires.blocks_value
 

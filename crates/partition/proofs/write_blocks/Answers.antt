@@ -4,7 +4,7 @@ use mathlib.Core.Bool.{Bool, true, false, ◌&&◌, and-false}
 use mathlib.Core.List.{List}
 use mathlib.Core.Logic.{⊎_elim}
 use Prim.Native.Nat.{ℕ, ◌<◌, ◌≤◌}
-use native.Mathlib.Nat.{eq-or-lt_of_le, not-suc-le-zero}
+use native.Mathlib.Nat.{not-suc-le-zero}
 use native.Mathlib.Omega.{arith}
 use Rattle.lts.specs.System.{Rel}
 use Rattle.lts.specs.Refinement.{block}
@@ -12,9 +12,8 @@ use Rattle.rows.specs.Rows.{in_row}
 use Rattle.sets.specs.Sets.{set_at, sets_of}
 use Rattle.lts.proofs.Below.{either, lt-or-ge, and-fst}
 use Rattle.rows.proofs.Rows.{in_row-zeros}
-use Rattle.sets.proofs.Lists.{sets-cong, sets-long}
+use Rattle.sets.proofs.Lists.{sets-cong}
 use Rattle.partition.specs.Pending.{Ordered}
-use borrow.Author.Rules.{rules}
 use Rattle.partition.proofs.write_blocks.Goals as goal
 
 -- a state from n on has no block
@@ -33,30 +32,9 @@ blocks_end n K written ok all now =
 pub loop-p-init : goal.loop-p-init
 loop-p-init c =
     let K = set_at c.args.related.now in
-    (search rules, search rules, c.requires.3 ∙ sets-cong 256 _ _ (λ g h hg hh. sym (ap (λ (b : Bool). b && block K g h) (in_row-zeros 4 g))), λ g h. absurd (not-suc-le-zero h))
-
-pub write_block-requires : goal.write_block-requires
-write_block-requires c =
-    let inv = c.loop-p.invariant in
-    let hp = c.loop-p-test.true in
-    record { related_len = (c.requires.1, omega (arith, hp, c.requires.0), (c.args.n, c.requires.2, hp), inv.1); blocks_value = inv.2 }
-
-pub loop-p-preserved : goal.loop-p-preserved
-loop-p-preserved c =
-    let p = c.loop-p.p in
-    let n = c.args.n in
-    let inv = c.loop-p.invariant in
-    let hp : p < n = c.loop-p-test.true in (
-      omega (arith, hp),
-      c.write_block.ensures.grown.long,
-      c.write_block.ensures.blocks_after,
-      λ g h. ⊎_elim (λ (e : g ≡ p). ap (in_row c.write_block.new.written) e ∙ c.write_block.ensures.grown.added) (λ (l : g < p). c.write_block.ensures.grown.kept g (omega (arith, l, hp, c.requires.0)) (inv.3 g l)) (eq-or-lt_of_le (omega (arith, h))),
-    )
-
-pub shape_of-blocks : goal.shape_of-blocks
-shape_of-blocks c = sets-long 256 _ c.loop-p.invariant.2 ∙ sym (sets-long 256 _ c.requires.3)
+    (c.requires.3 ∙ sets-cong 256 _ _ (λ g h hg hh. sym (ap (λ (b : Bool). b && block K g h) (in_row-zeros 4 g))), λ g h. absurd (not-suc-le-zero h))
 
 pub returns : goal.returns
 returns c =
     let inv = c.loop-p.invariant in
-    blocks_end c.args.n (set_at c.args.related.now) _ c.requires.2 (λ g h. inv.3 g (omega (arith, h, c.loop-p-test.false))) inv.2
+    blocks_end c.args.n (set_at c.args.related.now) _ c.requires.2 (λ g h. inv.1 g (omega (arith, h, c.loop-p-test.false))) inv.0

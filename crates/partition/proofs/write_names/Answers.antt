@@ -4,24 +4,17 @@ use mathlib.Core.Bool.{Bool}
 use mathlib.Core.List.{List}
 use Prim.Native.Nat.{ℕ, ◌<◌}
 use native.Mathlib.Omega.{arith}
-use lib.ListN.{set, length-set}
+use lib.ListN.{set}
 use Rattle.lts.specs.Bounded.{list_below, lowest}
 use Rattle.relation.specs.Matrix.{relation_of}
 use Rattle.lts.proofs.Below.{fill_more, lowest-lt}
 use Rattle.relation.proofs.Checks.{row-lowest}
-use Rattle.partition.proofs.Laws.{fill_done}
-use Rattle.relation.proofs.Rows.{row_words_lem}
-use borrow.Author.Rules.{rules}
 use Rattle.partition.proofs.write_names.Goals.{After-lowest_state-low}
 use Rattle.partition.proofs.write_names.Goals as goal
 
 pub loop-p-init : goal.loop-p-init
 unfolding list_below
-loop-p-init c = (search rules, refl, refl)
-
-pub lowest_state-low-requires : goal.lowest_state-low-requires
-lowest_state-low-requires c =
-    (row_words_lem c.args.n c.args.blocks.now c.row_words-w.ensures c.row_at.ensures c.loop-p-test.true c.requires.1, search rules)
+loop-p-init c = refl
 
 -- the name of p
 module _ (c : After-lowest_state-low) where
@@ -34,27 +27,18 @@ module _ (c : After-lowest_state-low) where
   name : c.lowest_state-low.result ≡ lowest size row
   name =
       let p = c.loop-p.p in
-      let l = c.loop-p-test.true in
+      let l : p < size = omega (arith, c.loop-p-test.true, c.requires.3) in
       c.lowest_state-low.ensures ∙ row-lowest size c.args.blocks.now p p c.row_words-w.ensures c.row_at.ensures l l (c.requires.2.loop p l)
 
   name_below : lowest size row < size
   name_below =
       let p = c.loop-p.p in
-      let l = c.loop-p-test.true in
+      let l : p < size = omega (arith, c.loop-p-test.true, c.requires.3) in
       lowest-lt size row p l (c.requires.2.loop p l)
 
-pub overflow_cast-names : goal.overflow_cast-names
-overflow_cast-names c = omega (arith, name c, name_below c)
+pub overflow_cast-name : goal.overflow_cast-name
+overflow_cast-name c = omega (arith, name c, name_below c)
 
 pub loop-p-preserved : goal.loop-p-preserved
-loop-p-preserved c = (
-  search rules,
-  simp length-set (omega arith),
-  ap (λ (l : List ℕ). set l c.loop-p.p c.lowest_state-low.result) c.loop-p.invariant.2 ∙ fill_more c.loop-p.p _ _ (omega arith) (name c),
-)
-
-pub returns : goal.returns
-returns c =
-    let end : c.loop-p.p ≡ c.args.n = omega arith in
-    let f : ℕ → ℕ = λ i. lowest c.args.n (relation_of c.args.n c.args.blocks.now i) in
-    fill_done f c.args.names.now _ c.loop-p.p c.args.n c.loop-p.invariant.2 end c.requires.3
+loop-p-preserved c =
+    ap (λ (l : List ℕ). set l c.loop-p.p c.lowest_state-low.result) c.loop-p.invariant ∙ fill_more c.loop-p.p _ _ (omega arith) (name c)

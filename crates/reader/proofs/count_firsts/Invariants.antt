@@ -9,8 +9,4 @@ use Rattle.reader.proofs.count_firsts.Given as goal
 
 abbrev pub invariant-loop-p : goal.invariant-loop-p
 invariant-loop-p l =
-    (l.p ≤ l.h.states) × Recorded l.s l.h × (length l.named ≡ 1025) × ((j : ℕ) → get_or l.initial.named j 0 ≤ 256)
-    × Counted (list_below l.p (λ q. (state_record l.s l.h q).first)) l.initial.named l.named
-
-abbrev pub decreases-loop-p : goal.decreases-loop-p
-decreases-loop-p l = l.h.states - l.p
+    Recorded l.s l.h × (length l.named ≡ 1025) × ((j : ℕ) → get_or l.initial.named j 0 ≤ 256) × Counted (list_below l.p (λ q. (state_record l.s l.h q).first)) l.initial.named l.named

@@ -6,18 +6,18 @@ use Rattle.reader.proofs.count_nexts.Goals as goal
 
 pub loop-i-init : goal.loop-i-init
 loop-i-init c =
-    (search rules, c.requires.0, c.requires.1, c.requires.2, counted_none _ _)
+    (c.requires.0, c.requires.1, c.requires.2, counted_none _ _)
 
 pub overflow_add-named : goal.overflow_add-named
 overflow_add-named c =
-    let j = c.known_transition-j.result.next in
-    let e = counted-most _ _ c.loop-i.invariant.4 j (c.loop-i.invariant.3 j) in
+    let j = c.known_transition.result.next in
+    let e = counted-most _ _ c.loop-i.invariant.3 j (c.loop-i.invariant.2 j) in
     search rules
 
 pub loop-i-preserved : goal.loop-i-preserved
 loop-i-preserved c =
-    (search rules, c.loop-i.invariant.1, search rules, c.loop-i.invariant.3, counted-more _ _ c.loop-i.invariant.4 _ (ap (λ r. r.next) c.known_transition-j.ensures.is) (search rules))
+    (c.loop-i.invariant.0, search rules, c.loop-i.invariant.2, counted-more _ _ c.loop-i.invariant.3 _ (ap (λ r. r.next) c.known_transition.ensures.is) (search rules))
 
 pub returns : goal.returns
 returns c =
-    counted-all _ _ c.loop-i.invariant.4 _ (search rules) (search rules)
+    counted-all _ _ c.loop-i.invariant.3 _ (search rules) (search rules)

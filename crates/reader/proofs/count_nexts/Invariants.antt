@@ -9,8 +9,4 @@ use Rattle.reader.proofs.count_nexts.Given as goal
 
 abbrev pub invariant-loop-i : goal.invariant-loop-i
 invariant-loop-i l =
-    (l.i ≤ l.h.transitions) × Recorded l.s l.h × (length l.named ≡ 1025) × ((j : ℕ) → get_or l.initial.named j 0 ≤ 256)
-    × Counted (list_below l.i (λ x. (transition_record l.s l.h (x + 1)).next)) l.initial.named l.named
-
-abbrev pub decreases-loop-i : goal.decreases-loop-i
-decreases-loop-i l = l.h.transitions - l.i
+    Recorded l.s l.h × (length l.named ≡ 1025) × ((j : ℕ) → get_or l.initial.named j 0 ≤ 256) × Counted (list_below l.i (λ x. (transition_record l.s l.h (x + 1)).next)) l.initial.named l.named

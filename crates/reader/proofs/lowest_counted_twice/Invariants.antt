@@ -5,7 +5,4 @@ use Rattle.reader.proofs.Lowest.{NoneBelow}
 use Rattle.reader.proofs.lowest_counted_twice.Given as goal
 
 abbrev pub invariant-loop-i : goal.invariant-loop-i
-invariant-loop-i l = (l.i ≤ l.k) × NoneBelow (λ x. leb 2 (get_or l.named (x + 1) 0)) l.i
-
-abbrev pub decreases-loop-i : goal.decreases-loop-i
-decreases-loop-i l = l.k - l.i
+invariant-loop-i l = NoneBelow (λ x. leb 2 (get_or l.named (x + 1) 0)) l.i

@@ -7,13 +7,13 @@ use Rattle.reader.proofs.Lowest.{none-start, none_more, none_found, none_end}
 use Rattle.reader.proofs.lowest_unmarked.Goals as goal
 
 pub loop-i-init : goal.loop-i-init
-loop-i-init c = (search rules, none-start _)
+loop-i-init c = none-start _
 
 pub returns-then-seen-i-ne1 : goal.returns-then-seen-i-ne1
-returns-then-seen-i-ne1 c = none_found _ _ c.loop-i.invariant.1 (search rules) (ap not (ne_eqb _ _ c.if-seen-i-ne1.true))
+returns-then-seen-i-ne1 c = none_found _ _ c.loop-i.invariant (search rules) (ap not (ne_eqb _ _ c.if-seen-i-ne1.true))
 
 pub loop-i-preserved : goal.loop-i-preserved
-loop-i-preserved c = (search rules, none_more _ c.loop-i.invariant.1 (ap not (eq-eqb _ _ c.if-seen-i-ne1.false)))
+loop-i-preserved c = none_more _ c.loop-i.invariant (ap not (eq-eqb _ _ c.if-seen-i-ne1.false))
 
 pub returns : goal.returns
-returns c = none_end _ _ c.loop-i.invariant.1 (search rules)
+returns c = none_end _ _ c.loop-i.invariant (search rules)

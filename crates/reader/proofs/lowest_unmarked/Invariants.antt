@@ -6,7 +6,4 @@ use Rattle.reader.proofs.Lowest.{NoneBelow}
 use Rattle.reader.proofs.lowest_unmarked.Given as goal
 
 abbrev pub invariant-loop-i : goal.invariant-loop-i
-invariant-loop-i l = (l.i ≤ l.k) × NoneBelow (λ x. not (eqb (get_or l.seen (x + 1) 0) 1)) l.i
-
-abbrev pub decreases-loop-i : goal.decreases-loop-i
-decreases-loop-i l = l.k - l.i
+invariant-loop-i l = NoneBelow (λ x. not (eqb (get_or l.seen (x + 1) 0) 1)) l.i

@@ -5,8 +5,8 @@ use Rattle.reader.proofs.Reaching.{reached-none, reached-lowest}
 use Rattle.reader.proofs.lowest_unreached.Goals as goal
 
 pub loop-p-init : goal.loop-p-init
-loop-p-init c = (search rules, search rules, reached-none _ _ _ (zeros-long 1025) (zeros-at 1025))
+loop-p-init c = (search rules, reached-none _ _ _ (zeros-long 1025) (zeros-at 1025))
 
 pub returns : goal.returns
 returns c =
-    reached-lowest _ _ c.loop-p.invariant.1 _ c.loop-p.invariant.2 (search rules) (search rules) c.lowest_unmarked.ensures
+    reached-lowest _ _ c.loop-p.invariant.0 _ c.loop-p.invariant.1 (search rules) (search rules) c.lowest_unmarked.ensures

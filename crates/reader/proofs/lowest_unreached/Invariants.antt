@@ -4,7 +4,4 @@ use Rattle.reader.specs.Marks.{ReachedBelow}
 use Rattle.reader.proofs.lowest_unreached.Given as goal
 
 abbrev pub invariant-loop-p : goal.invariant-loop-p
-invariant-loop-p l = (l.p ≤ l.h.states) × Recorded l.s l.h × ReachedBelow l.s l.h l.p l.seen
-
-abbrev pub decreases-loop-p : goal.decreases-loop-p
-decreases-loop-p l = l.h.states - l.p
+invariant-loop-p l = Recorded l.s l.h × ReachedBelow l.s l.h l.p l.seen

@@ -7,12 +7,12 @@ use mathlib.Core.Bool.{not}
 use Rattle.reader.proofs.mark_chains.Goals as goal
 
 pub loop-p-init : goal.loop-p-init
-loop-p-init c = (search rules, search rules, reach-none _ _ _)
+loop-p-init c = (search rules, reach-none _ _ _)
 
 pub loop-p-preserved : goal.loop-p-preserved
 loop-p-preserved c =
-    (search rules, c.loop-p.invariant.1, reach-more _ _ _ _ c.loop-p.invariant.2 c.mark_chain.ensures.value c.mark_chain.ensures.seen_after (ap not c.if-not-mark_chain.false))
+    (c.loop-p.invariant.0, reach-more _ _ _ _ c.loop-p.invariant.1 c.mark_chain.ensures.value c.mark_chain.ensures.seen_after (ap not c.if-not-mark_chain.false))
 
 pub returns-then-not-mark_chain-clause-value : goal.returns-then-not-mark_chain-clause-value
 returns-then-not-mark_chain-clause-value c =
-    (reach-stop _ _ _ {X = ℕ} _ _ (search rules) c.loop-p.invariant.2 c.mark_chain.ensures.value (ap not c.if-not-mark_chain.true)).0
+    (reach-stop _ _ _ {X = ℕ} _ _ (search rules) c.loop-p.invariant.1 c.mark_chain.ensures.value (ap not c.if-not-mark_chain.true)).0

@@ -4,7 +4,4 @@ use Rattle.reader.proofs.Marks.{Reach}
 use Rattle.reader.proofs.mark_chains.Given as goal
 
 abbrev pub invariant-loop-p : goal.invariant-loop-p
-invariant-loop-p l = (l.p ≤ l.h.states) × Recorded l.s l.h × Reach l.s l.h l.initial.seen l.seen l.p
-
-abbrev pub decreases-loop-p : goal.decreases-loop-p
-decreases-loop-p l = l.h.states - l.p
+invariant-loop-p l = Recorded l.s l.h × Reach l.s l.h l.initial.seen l.seen l.p

@@ -3,7 +3,4 @@ use Rattle.reader.proofs.Labels.{NamedBelow}
 use Rattle.reader.proofs.named_fit.Given as goal
 
 abbrev pub invariant-loop-i : goal.invariant-loop-i
-invariant-loop-i l = (l.i ≤ l.h.actions) × NamedBelow l.s l.h l.i l.index
-
-abbrev pub decreases-loop-i : goal.decreases-loop-i
-decreases-loop-i l = l.h.actions - l.i
+invariant-loop-i l = NamedBelow l.s l.h l.i l.index

@@ -10,8 +10,4 @@ use Rattle.reader.proofs.successors_stamped.Given as goal
 
 abbrev pub invariant-loop-p : goal.invariant-loop-p
 invariant-loop-p l =
-    (l.p ≤ l.h.states) × Recorded l.s l.h × (all_below l.p (λ x. distinct (map (successor l.s l.h) (chain l.s l.h x))) ≡ true)
-    × (256 * (l.h.actions + 1) ≤ length l.stamps) × ((i : ℕ) → get_or l.stamps i 0 ≤ l.p) × (length l.stamps ≡ length l.initial.stamps)
-
-abbrev pub decreases-loop-p : goal.decreases-loop-p
-decreases-loop-p l = l.h.states - l.p
+    Recorded l.s l.h × (all_below l.p (λ x. distinct (map (successor l.s l.h) (chain l.s l.h x))) ≡ true) × (256 * (l.h.actions + 1) ≤ length l.stamps) × ((i : ℕ) → get_or l.stamps i 0 ≤ l.p) × (length l.stamps ≡ length l.initial.stamps)

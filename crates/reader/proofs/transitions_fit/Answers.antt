@@ -1,22 +1,11 @@
--- `reader::transitions_fit` meets its contract: the loop has passed over the records below i, and all of them fit.
-use borrow.Author.Rules.{rules}
-use Rattle.encoding.specs.Encoding.{transitions_fit}
-use Rattle.lts.proofs.Lists.{all_none, all_more, all-stop, all_done}
-use mathlib.Core.Path.{ap}
-use mathlib.Core.Bool.{not}
+-- `reader::transitions_fit` meets its contract, by `all_range`. Assumes nothing.
+use Prim.Native.Nat.{◌+◌}
+use Rattle.std.proofs.Common.{rules, tests}
+use Rattle.lts.proofs.Ranges.{all_range}
+use Rattle.encoding.specs.Records.{transition_record}
+use Rattle.encoding.specs.Encoding.{transition_fits, transitions_fit}
 use Rattle.reader.proofs.transitions_fit.Goals as goal
-
-pub loop-i-init : goal.loop-i-init
-loop-i-init c = (search rules, all_none _)
-
-pub returns-then-not-transition_fits : goal.returns-then-not-transition_fits
-unfolding transitions_fit
-returns-then-not-transition_fits c = all-stop _ _ _ (search rules) c.transition_fits.ensures (ap not c.if-not-transition_fits.true)
-
-pub loop-i-preserved : goal.loop-i-preserved
-loop-i-preserved c =
-    (search rules, all_more _ _ c.loop-i.invariant.1 c.transition_fits.ensures (ap not c.if-not-transition_fits.false))
 
 pub returns : goal.returns
 unfolding transitions_fit
-returns c = all_done _ _ _ c.loop-i.invariant.1 (search rules) (search rules)
+returns c = all_range _ (λ p. transition_fits c.args.h (transition_record c.args.s.now c.args.h (p + 1))) _ c.all.ensures.ran (λ x b q k. search (rules, tests))

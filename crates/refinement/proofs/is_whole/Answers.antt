@@ -1,6 +1,5 @@
 -- `refinement::is_whole` meets its contract: two sets that do not differ are the same. Assumes nothing.
 use mathlib.Core.Path.{sym, ◌∙◌}
-use mathlib.Core.Bool.{true≢false}
 use Prim.Native.Nat.{◌≤◌}
 use native.Mathlib.Omega.{arith}
 use Rattle.lts.proofs.Count.{count_most}
@@ -8,9 +7,6 @@ use Rattle.rows.specs.Rows.{in_row}
 use Rattle.sets.proofs.Lists.{same-sets}
 use borrow.Author.Rules.{rules}
 use Rattle.refinement.proofs.is_whole.Goals as goal
-
-pub returns-then-differ : goal.returns-then-differ
-returns-then-differ c = λ e. absurd (true≢false (sym e))
 
 pub overflow_mul-result : goal.overflow_mul-result
 overflow_mul-result c = let few : c.row_count.result ≤ 256 = omega (arith, c.row_count.ensures, count_most 256 (in_row c.args.inside)) in search rules

@@ -2,21 +2,17 @@
 use mathlib.Core.Path.{sym, ◌∙◌}
 use Rattle.sets.proofs.Lists.{set-in, any-off}
 use Rattle.refinement.proofs.Actions.{acted-cong, idle-acted, hits-owned}
+use Rattle.std.proofs.Common.{rules}
 use Rattle.refinement.proofs.refine_action.Goals as goal
-
-pub removed-rem-requires : goal.removed-rem-requires
-removed-rem-requires c = let p = c.requires.3 in (p.0, p.1, p.2, p.3)
 
 pub returns-then-not-any : goal.returns-then-not-any
 returns-then-not-any c =
-    let none = any-off 256 _ (sym c.any.ensures ∙ c.if-not-any.true) in record {
-      by_index = λ t ix most covers. idle-acted _ _ _ _ _ c.requires.0 c.requires.1 (λ j. (c.slice_known-1.given j).fits) (λ j. (c.slice_known-2-1.given j).fits)
+    let none = any-off 256 _ (sym c.any.ensures ∙ c.if-not-any.true) in
+    record {
+      by_index = λ t ix most covers. idle-acted _ _ _ _ _ c.requires.0 c.requires.1 (λ j. search rules) (λ j. search rules)
           (λ q h. sym (set-in _ (c.removed-rem.ensures t ix most covers) q h) ∙ none q h);
       parted = c.requires.2;
     }
-
-pub sources_into-hits-requires : goal.sources_into-hits-requires
-sources_into-hits-requires c = let p = c.requires.3 in (p.0, p.1, p.2, p.3)
 
 pub refine_by-requires : goal.refine_by-requires
 refine_by-requires c =

@@ -1,39 +1,19 @@
 -- `relation::count_pairs` meets its contract: the ones of the words, summed, are the pairs. Assumes nothing.
-use mathlib.Core.Path.{◌∙◌}
-use Prim.Native.Nat.{◌≤◌, ◌<◌, ◌^◌}
-use native.Mathlib.Omega.{arith}
-use lib.Count.{ones-le}
-use lib.ListN.{length, get_or}
-use Rattle.rows.proofs.Counts.{ones-count}
-use Rattle.relation.proofs.Counts.{bits-pairs}
-use Rattle.lts.proofs.Below.{sum-none, sum_more, sum_done}
+use Rattle.std.proofs.Common.{rules, arith, tests, length, ◌≤◌, ◌∙◌}
+use Rattle.std.specs.Int.Count.{ones}
+use Rattle.std.proofs.lemmas.Iterator.{YieldsList-from_slice, YieldsList-from_map}
+use Rattle.std.proofs.lemmas.Iterator.Consumers.{sum_by_from_yields_List}
+use Rattle.std.proofs.lemmas.Iterator.Adapters.{fits_from_length, at_most_from_yields_List}
 use Rattle.relation.proofs.Matrices.{matrix-small}
-use borrow.Author.Rules.{rules}
-use Rattle.relation.proofs.count_pairs.Goals.{After-shared_slice_known-1, Start}
+use Rattle.relation.proofs.Counts.{ones-pairs}
 use Rattle.relation.proofs.count_pairs.Goals as goal
 
-pub loop-j-init : goal.loop-j-init
-loop-j-init c = (search rules, search rules, sum-none _)
-
--- the word that is read
-word : (c : After-shared_slice_known-1) → get_or c.args.grid.now c.loop-j.j 0 < 2 ^ 64
-word c = (c.type_inv.grid c.loop-j.j).fits
-
-small : (c : Start) → length c.args.grid.now ≤ 1024
-small c = omega (arith, matrix-small c.args.n c.requires.1, c.requires.0.long)
-
-pub overflow_cast-total : goal.overflow_cast-total
-overflow_cast-total c = omega (arith, ones-le 64 _ (word c))
-
-pub overflow_add-total : goal.overflow_add-total
-overflow_add-total c = omega (arith, ones-le 64 _ (word c), small (goal.at.overflow_add-total c).Start)
-
-pub loop-j-preserved : goal.loop-j-preserved
-loop-j-preserved c = (
-  search rules,
-  omega (arith, ones-le 64 _ (word c)),
-  sum_more _ c.loop-j.j c.loop-j.invariant.2 (ones-count 64 (word c)),
-)
+pub sum-requires-clause-fits : goal.sum-requires-clause-fits
+sum-requires-clause-fits c =
+    let small : length c.args.grid.now ≤ 1024 = omega (arith, matrix-small c.args.n c.requires.1, c.requires.0.long) in
+    fits_from_length _ _ 1024 _ (at_most_from_yields_List (YieldsList-from_slice c.args.grid.now cc) small) c.map.ensures.closure (omega arith) (λ x r q k. search (rules, tests))
 
 pub returns : goal.returns
-returns c = sum_done _ _ _ c.loop-j.invariant.2 (omega (arith, c.requires.0.long)) ∙ bits-pairs _ _ c.requires.0
+returns c =
+    sum_by_from_yields_List ones c.args.grid.now _ _ c.sum.ensures.ran (YieldsList-from_map _ ones (YieldsList-from_slice c.args.grid.now cc) c.map.ensures.closure (λ x r q k. search rules))
+    ∙ ones-pairs _ _ c.requires.0 (λ j. (c.type_inv.grid j).fits)

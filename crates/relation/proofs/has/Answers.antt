@@ -1,9 +1,7 @@
--- `relation::has` meets its contract: the code is the definition. Assumes nothing.
-use mathlib.Core.Path.{refl}
-use Rattle.rows.specs.Rows.{bit}
-use Rattle.relation.specs.Matrix.{in_matrix}
+-- `relation::has` meets its contract: the row from its first word on. Assumes nothing.
+use Rattle.std.proofs.Common.{◌∙◌}
+use Rattle.relation.proofs.Matrices.{in_row-part}
 use Rattle.relation.proofs.has.Goals as goal
 
 pub returns : goal.returns
-unfolding in_matrix bit
-returns c = refl
+returns c = c.contains.ensures ∙ in_row-part c.args.w c.args.p c.args.grid.now c.args.q

@@ -1,25 +1,18 @@
 -- `relation::is_matrix` meets its contract: the length, then each row. Assumes nothing.
-use mathlib.Core.Path.{sym, ◌∙◌}
-use native.Mathlib.Omega.{arith}
-use borrow.Author.Count.{below_none, below_more}
+use Rattle.std.proofs.Common.{rules, arith, refl, sym, ◌∙◌}
+use borrow.Author.Tests.{ne_eqb}
+use Rattle.std.proofs.lemmas.Iterator.{YieldsList-from_range}
+use Rattle.std.proofs.lemmas.Iterator.Search.{all_from_yields_List}
+use Rattle.relation.specs.Check.{clear_at}
+use Rattle.relation.proofs.Places.{all-range}
 use Rattle.relation.proofs.Checks.{wrong-length, right-length}
-use Rattle.lts.proofs.Below.{all_yes, all-not}
-use borrow.Author.Rules.{rules}
 use Rattle.relation.proofs.is_matrix.Goals as goal
 
 pub returns-then-grid-matrix_words : goal.returns-then-grid-matrix_words
-returns-then-grid-matrix_words c = wrong-length _ _ (λ e. c.if-grid-matrix_words.true (e ∙ sym c.matrix_words.ensures.0))
+returns-then-grid-matrix_words c =
+    all_from_yields_List (clear_at c.args.n c.args.grid.now) _ _ _ c.all.ensures.ran (YieldsList-from_range 0 c.args.n _ refl (omega arith)) (λ x b q k. (search rules, search rules))
+    ∙ all-range _ c.args.n ∙ right-length _ _ (c.if-grid-matrix_words.true ∙ c.matrix_words.ensures.0)
 
-pub loop-p-init : goal.loop-p-init
-loop-p-init c = (search rules, c.if-grid-matrix_words.false ∙ c.matrix_words.ensures.0, below_none _)
-
-pub returns-then-not-row_formed : goal.returns-then-not-row_formed
-returns-then-not-row_formed c =
-    all-not _ _ c.loop-p.p c.loop-p-test.true (sym c.row_formed.ensures ∙ c.if-not-row_formed.true)
-    ∙ right-length _ _ c.loop-p.invariant.1
-
-pub loop-p-preserved : goal.loop-p-preserved
-loop-p-preserved c = (search rules, search rules, below_more _ _ c.loop-p.invariant.2 (sym c.row_formed.ensures ∙ c.if-not-row_formed.false))
-
-pub returns : goal.returns
-returns c = all_yes _ _ (λ i h. c.loop-p.invariant.2 i (omega arith)) ∙ right-length _ _ c.loop-p.invariant.1
+pub returns-else-grid-matrix_words : goal.returns-else-grid-matrix_words
+returns-else-grid-matrix_words c =
+    let other = c.if-grid-matrix_words.false in ne_eqb _ _ other ∙ wrong-length _ _ (λ e. other (e ∙ sym c.matrix_words.ensures.0))

@@ -1,22 +1,14 @@
 -- `relation::is_reflexive` meets its contract: state by state. Assumes nothing.
-use mathlib.Core.Path.{sym, ◌∙◌}
-use native.Mathlib.Omega.{arith}
-use borrow.Author.Count.{below_none, below_more}
+use Rattle.std.proofs.Common.{rules, arith, refl, ◌∙◌}
+use Rattle.std.proofs.lemmas.Iterator.{YieldsList-from_range}
+use Rattle.std.proofs.lemmas.Iterator.Search.{all_from_yields_List}
+use Rattle.relation.specs.Matrix.{relation_of}
 use Rattle.relation.specs.Check.{reflexive_below}
-use Rattle.lts.proofs.Below.{all_yes, all-not}
-use borrow.Author.Rules.{rules}
+use Rattle.relation.proofs.Places.{all-range}
 use Rattle.relation.proofs.is_reflexive.Goals as goal
-
-pub loop-p-init : goal.loop-p-init
-loop-p-init c = (search rules, below_none _)
-
-pub returns-then-not-relates : goal.returns-then-not-relates
-unfolding reflexive_below
-returns-then-not-relates c = all-not _ _ c.loop-p.p c.loop-p-test.true (sym c.relates.ensures ∙ c.if-not-relates.true)
-
-pub loop-p-preserved : goal.loop-p-preserved
-loop-p-preserved c = (search rules, below_more _ _ c.loop-p.invariant.1 (sym c.relates.ensures ∙ c.if-not-relates.false))
 
 pub returns : goal.returns
 unfolding reflexive_below
-returns c = all_yes _ _ (λ i h. c.loop-p.invariant.1 i (omega arith))
+returns c =
+    all_from_yields_List (λ p. relation_of c.args.n c.args.grid.now p p) _ _ _ c.all.ensures.ran (YieldsList-from_range 0 c.args.n _ refl (omega arith)) (λ x b q k. (search rules, search rules))
+    ∙ all-range _ c.args.n

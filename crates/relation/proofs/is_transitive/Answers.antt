@@ -1,37 +1,23 @@
 -- `relation::is_transitive` meets its contract: state by state, from the last down. Assumes nothing.
-use mathlib.Core.Path.{◌≡◌, sym, ap, ◌∙◌}
-use mathlib.Core.Logic.{⊎_elim}
-use Prim.Native.Nat.{◌-◌, ◌<◌}
+use Rattle.std.proofs.Common.{◌≡◌, sym, ap, ◌∙◌, ◌-◌, ◌<◌, arith, ⊎_elim}
 use native.Mathlib.Nat.{eq-or-lt_of_le}
-use native.Mathlib.Omega.{arith}
 use Rattle.relation.specs.Matrix.{relation_of}
 use Rattle.relation.specs.Check.{transitive_at, transitive_below}
 use Rattle.lts.proofs.Below.{all_yes, all-not}
-use borrow.Author.Rules.{rules}
 use Rattle.relation.proofs.is_transitive.Goals as goal
-
-pub loop-p-init : goal.loop-p-init
-loop-p-init c = (search rules, λ t h l. absurd (omega arith))
-
-pub transitive_at-requires : goal.transitive_at-requires
-transitive_at-requires c = record { matrix = (c.requires.0, c.requires.1, omega (arith, c.loop-p-test.true, c.loop-p.invariant.0)); by_index = λ x h l. c.loop-p.invariant.1 x (omega arith) l }
 
 pub returns-then-not-transitive_at : goal.returns-then-not-transitive_at
 unfolding transitive_below
-returns-then-not-transitive_at c =
-    all-not _ _ (c.loop-p.p - 1) (omega (arith, c.loop-p-test.true, c.loop-p.invariant.0))
-    (sym c.transitive_at.ensures ∙ c.if-not-transitive_at.true)
+returns-then-not-transitive_at c = all-not _ _ (c.loop-p.p - 1) (omega arith) (sym c.transitive_at.ensures ∙ c.if-not-transitive_at.true)
 
 pub loop-p-preserved : goal.loop-p-preserved
 loop-p-preserved c =
     let n = c.args.n in
     let p = c.loop-p.p in
-    let passed = sym c.transitive_at.ensures ∙ c.if-not-transitive_at.false in (
-      search rules,
-      λ t h l. ⊎_elim (λ (e : p - 1 ≡ t). ap (transitive_at n (relation_of n c.args.grid.now)) (sym e) ∙ passed)
-          (λ (k : p - 1 < t). c.loop-p.invariant.1 t (omega arith) l) (eq-or-lt_of_le h),
-    )
+    let passed = sym c.transitive_at.ensures ∙ c.if-not-transitive_at.false in
+    λ t h l. ⊎_elim (λ (e : p - 1 ≡ t). ap (transitive_at n (relation_of n c.args.grid.now)) (sym e) ∙ passed)
+    (λ (k : p - 1 < t). c.loop-p.invariant t (omega arith) l) (eq-or-lt_of_le h)
 
 pub returns : goal.returns
 unfolding transitive_below
-returns c = all_yes _ _ (λ t h. c.loop-p.invariant.1 t (omega arith) h)
+returns c = all_yes _ _ (λ t h. c.loop-p.invariant t (omega arith) h)

@@ -6,7 +6,4 @@ use Rattle.relation.specs.Check.{transitive_at}
 use Rattle.relation.proofs.is_transitive.Given as goal
 
 abbrev pub invariant-loop-p : goal.invariant-loop-p
-invariant-loop-p l = (l.p ≤ l.n) × ((t : ℕ) → l.p ≤ t → t < l.n → transitive_at l.n (relation_of l.n l.grid) t ≡ true)
-
-abbrev pub decreases-loop-p : goal.decreases-loop-p
-decreases-loop-p l = l.p
+invariant-loop-p l = (t : ℕ) → l.p ≤ t → t < l.n → transitive_at l.n (relation_of l.n l.grid) t ≡ true

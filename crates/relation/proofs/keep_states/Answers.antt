@@ -28,5 +28,5 @@ row_intersect-requires c = (simp (tail-part, length-drop) (omega (arith, room (g
 
 pub returns : goal.returns
 returns c =
-    row-zipped c.args.n c.args.p c.args.grid.now ◌&&◌ (in_row c.args.mask.now) (λ b. refl) c.requires.0 (λ j. (c.slice_known-1.given j).fits) c.requires.2
+    row-zipped c.args.n c.args.p c.args.grid.now ◌&&◌ (in_row c.args.mask.now) (λ b. refl) c.requires.0 (λ j. ((goal.at.returns c).After-row_words-w.type_inv.grid j).fits) c.requires.2
     c.row_words-w.ensures c.row_intersect.new.row c.row_intersect.ensures

@@ -26,5 +26,5 @@ row_copy-requires c = (simp (tail-part, length-drop) (omega (arith, room (goal.a
 
 pub returns : goal.returns
 returns c =
-    row_written c.args.n c.args.p c.args.grid.now (in_row c.args.row.now) c.requires.0 (λ j. (c.slice_known-1.given j).fits) c.requires.2 c.requires.3.clear
+    row_written c.args.n c.args.p c.args.grid.now (in_row c.args.row.now) c.requires.0 (λ j. ((goal.at.returns c).After-row_words-w.type_inv.grid j).fits) c.requires.2 c.requires.3.clear
     c.row_words-w.ensures c.row_copy.new.row c.row_copy.ensures

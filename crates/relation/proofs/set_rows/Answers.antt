@@ -22,7 +22,7 @@ loop-p-init c =
     let Members = in_row c.args.members.now in
     let Row = in_row c.args.row.now in (
       λ h. c.next_state-p.ensures.member (omega (arith, h, c.requires.n_bound.0)),
-      matrix-relation _ _ c.requires.n_bound.1 (λ j. (c.slice_known-1.given j).fits)
+      matrix-relation _ _ c.requires.n_bound.1 (λ j. (c.type_inv.grid j).fits)
           ∙ rows-first c.args.n _ R Members (λ t q _ _ e. left Members Row R t q e) _ _ c.next_state-p.ensures,
     )
 

@@ -14,11 +14,11 @@ use Rattle.relation.proofs.write_all_pairs.Goals.{In-loop-p}
 use Rattle.relation.proofs.write_all_pairs.Goals as goal
 
 pub loop-p-init : goal.loop-p-init
-loop-p-init c = (search rules, search rules, rows_none _ _ _)
+loop-p-init c = (search rules, rows_none _ _ _)
 
 -- row p lies within the matrix
 room : (c : In-loop-p) → c.loop-p.p * c.row_words-w.result + c.row_words-w.result ≤ length c.loop-p.grid
-room c = row_fits c.args.n c.loop-p.grid c.row_words-w.ensures c.loop-p-test.true (c.loop-p.invariant.1 ∙ c.requires.1)
+room c = row_fits c.args.n c.loop-p.grid c.row_words-w.ensures c.loop-p-test.true (c.loop-p.invariant.0 ∙ c.requires.1)
 
 pub overflow_mul-at : goal.overflow_mul-at
 overflow_mul-at c = omega (arith, room c)
@@ -38,12 +38,11 @@ loop-p-preserved c =
     let w = c.row_words-w.result in
     let g = c.loop-p.grid in
     let at = c.loop-p.p * w in (
-      search rules,
-      same_len_mid {X = ℕ} at (length g - at) g c.row_copy.new.row c.row_copy.auto.row ∙ c.loop-p.invariant.1,
-      rows_more n (λ p q. true) c.row_words-w.ensures _ _ _ _ c.loop-p.invariant.2
+      same_len_mid {X = ℕ} at (length g - at) g c.row_copy.new.row c.row_copy.auto.row ∙ c.loop-p.invariant.0,
+      rows_more n (λ p q. true) c.row_words-w.ensures _ _ _ _ c.loop-p.invariant.1
           (c.row_copy.ensures
           ∙ ap (λ (l : List ℕ). l ++ drop w (take (length g - at) (drop at g))) (all_row n _ c.row_words-w.ensures c.requires.0 c.states_below-all.ensures)),
     )
 
 pub returns : goal.returns
-returns c = rows-done _ _ _ _ _ c.loop-p.invariant.2 (omega arith) (omega arith)
+returns c = rows-done _ _ _ _ _ c.loop-p.invariant.1 (omega arith) (omega arith)

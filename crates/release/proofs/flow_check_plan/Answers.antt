@@ -18,33 +18,33 @@ slice_bounds-check_bytes-end c = sym (length-take-le _ _ (omega (arith, c.load_g
 
 pub overflow_mul-result : goal.overflow_mul-result
 unfolding check_reply
-overflow_mul-result c = omega (arith, check-few c.check_bytes-answer.ensures.check_promise (ap check_reply c.in-Last.is))
+overflow_mul-result c = omega (arith, check-few c.check_bytes-answer.ensures.check_promise (ap check_reply c.in-Ok.is))
 
-pub overflow_mul-result-in-Last : goal.overflow_mul-result-in-Last
+pub overflow_mul-result-in-Ok : goal.overflow_mul-result-in-Ok
 unfolding check_reply
-overflow_mul-result-in-Last c = omega (arith, check-few c.check_bytes-answer.ensures.check_promise (ap check_reply c.in-Last.is))
+overflow_mul-result-in-Ok c = omega (arith, check-few c.check_bytes-answer.ensures.check_promise (ap check_reply c.in-Ok.is))
 
-pub overflow_mul-result-in-Last-2 : goal.overflow_mul-result-in-Last-2
+pub overflow_mul-result-in-Ok-2 : goal.overflow_mul-result-in-Ok-2
 unfolding check_reply
-overflow_mul-result-in-Last-2 c = omega (arith, check-few c.check_bytes-answer.ensures.check_promise (ap check_reply c.in-Last.is))
+overflow_mul-result-in-Ok-2 c = omega (arith, check-few c.check_bytes-answer.ensures.check_promise (ap check_reply c.in-Ok.is))
 
-pub overflow_add-result-in-Last : goal.overflow_add-result-in-Last
+pub overflow_add-result-in-Ok : goal.overflow_add-result-in-Ok
 unfolding check_reply
-overflow_add-result-in-Last c = omega (arith, check-few c.check_bytes-answer.ensures.check_promise (ap check_reply c.in-Last.is))
+overflow_add-result-in-Ok c = omega (arith, check-few c.check_bytes-answer.ensures.check_promise (ap check_reply c.in-Ok.is))
 
 pub overflow_add-result : goal.overflow_add-result
 unfolding check_reply
-overflow_add-result c = omega (arith, check-few c.check_bytes-answer.ensures.check_promise (ap check_reply c.in-Last.is))
+overflow_add-result c = omega (arith, check-few c.check_bytes-answer.ensures.check_promise (ap check_reply c.in-Ok.is))
 
-pub returns-in-Refused : goal.returns-in-Refused
+pub returns-in-Err : goal.returns-in-Err
 unfolding check_reply
-returns-in-Refused c = let whole = check-exported c.load_grid-n.ensures.loaded c.check_bytes-answer.ensures.plan_value c.check_bytes-answer.ensures.check_promise
-    (packs-same check_places check_reply c.in-Refused.is (c.pack_refused.ensures ∙ refused-packed check_places c.in-Refused.r))
-    (kept_same check_places check_reply c.in-Refused.is (unpack-refused check_places c.in-Refused.r)) in record { plan_value = whole.0; value = whole.1.0; check_promise = whole.1.1 }
+returns-in-Err c = let whole = check-exported c.load_grid-n.ensures.loaded c.check_bytes-answer.ensures.plan_value c.check_bytes-answer.ensures.check_promise
+    (packs-same check_places check_reply c.in-Err.is (c.pack_refused.ensures ∙ refused-packed check_places c.in-Err.r))
+    (kept_same check_places check_reply c.in-Err.is (unpack-refused check_places c.in-Err.r)) in record { plan_value = whole.0; value = whole.1.0; check_promise = whole.1.1 }
 
-pub returns-in-Last : goal.returns-in-Last
+pub returns-in-Ok : goal.returns-in-Ok
 unfolding check_reply
-returns-in-Last c =
-    let f = check-few c.check_bytes-answer.ensures.check_promise (ap check_reply c.in-Last.is) in let whole = check-exported c.load_grid-n.ensures.loaded c.check_bytes-answer.ensures.plan_value c.check_bytes-answer.ensures.check_promise
-    (packs-same check_places check_reply c.in-Last.is (check-packed c.in-Last.p c.in-Last.q c.in-Last.depth))
-    (kept_same check_places check_reply c.in-Last.is (check-kept c.in-Last.p c.in-Last.q c.in-Last.depth (omega (arith, f)) (omega (arith, f)))) in record { plan_value = whole.0; value = whole.1.0; check_promise = whole.1.1 }
+returns-in-Ok c =
+    let f = check-few c.check_bytes-answer.ensures.check_promise (ap check_reply c.in-Ok.is) in let whole = check-exported c.load_grid-n.ensures.loaded c.check_bytes-answer.ensures.plan_value c.check_bytes-answer.ensures.check_promise
+    (packs-same check_places check_reply c.in-Ok.is (check-packed c.in-Ok.last.p c.in-Ok.last.q c.in-Ok.last.depth))
+    (kept_same check_places check_reply c.in-Ok.is (check-kept c.in-Ok.last.p c.in-Ok.last.q c.in-Ok.last.depth (omega (arith, f)) (omega (arith, f)))) in record { plan_value = whole.0; value = whole.1.0; check_promise = whole.1.1 }

@@ -9,14 +9,14 @@ use Rattle.release.proofs.Exports.{coarsest-exported}
 use Rattle.release.proofs.flow_coarsest.Goals as goal
 
 pub pack_counts-requires : goal.pack_counts-requires
-pack_counts-requires c = small c.coarsest_on_bytes-answer.ensures.coarsest_bytes_promise.carried c.in-Done.is
+pack_counts-requires c = small c.coarsest_on_bytes-answer.ensures.coarsest_bytes_promise.carried c.in-Ok.is
 
-pub returns-in-Refused : goal.returns-in-Refused
+pub returns-in-Err : goal.returns-in-Err
 unfolding coarsest_reply
-returns-in-Refused c = let whole = coarsest-exported c.coarsest_on_bytes-answer.ensures.representatives_value c.coarsest_on_bytes-answer.ensures.coarsest_bytes_promise
-    (packs-same coarsest_places coarsest_reply c.in-Refused.is (c.pack_refused.ensures ∙ refused-packed coarsest_places c.in-Refused.r))
-    (kept_same coarsest_places coarsest_reply c.in-Refused.is (unpack-refused coarsest_places c.in-Refused.r)) in record { representatives_value = whole.0; value = whole.1.0; coarsest_bytes_promise = whole.1.1 }
+returns-in-Err c = let whole = coarsest-exported c.coarsest_on_bytes-answer.ensures.representatives_value c.coarsest_on_bytes-answer.ensures.coarsest_bytes_promise
+    (packs-same coarsest_places coarsest_reply c.in-Err.is (c.pack_refused.ensures ∙ refused-packed coarsest_places c.in-Err.r))
+    (kept_same coarsest_places coarsest_reply c.in-Err.is (unpack-refused coarsest_places c.in-Err.r)) in record { representatives_value = whole.0; value = whole.1.0; coarsest_bytes_promise = whole.1.1 }
 
-pub returns-in-Done : goal.returns-in-Done
-returns-in-Done c = let whole = coarsest-exported c.coarsest_on_bytes-answer.ensures.representatives_value c.coarsest_on_bytes-answer.ensures.coarsest_bytes_promise (packs-same coarsest_places coarsest_reply c.in-Done.is c.pack_counts.ensures)
-    (kept_same coarsest_places coarsest_reply c.in-Done.is (counts-kept c.in-Done.counts (small c.coarsest_on_bytes-answer.ensures.coarsest_bytes_promise.carried c.in-Done.is))) in record { representatives_value = whole.0; value = whole.1.0; coarsest_bytes_promise = whole.1.1 }
+pub returns-in-Ok : goal.returns-in-Ok
+returns-in-Ok c = let whole = coarsest-exported c.coarsest_on_bytes-answer.ensures.representatives_value c.coarsest_on_bytes-answer.ensures.coarsest_bytes_promise (packs-same coarsest_places coarsest_reply c.in-Ok.is c.pack_counts.ensures)
+    (kept_same coarsest_places coarsest_reply c.in-Ok.is (counts-kept c.in-Ok.counts (small c.coarsest_on_bytes-answer.ensures.coarsest_bytes_promise.carried c.in-Ok.is))) in record { representatives_value = whole.0; value = whole.1.0; coarsest_bytes_promise = whole.1.1 }

@@ -21,4 +21,4 @@ slice_bounds-is_simulation-end-2 c = sym (length-take-le _ _ (omega (arith, c.lo
 pub returns : goal.returns
 returns c =
     let w = c.load_grid-m.ensures.loaded in
-    let v = c.load_grid-n.ensures.loaded in let whole = simulation-exported w v c.is_simulation.ensures.claim_value c.is_simulation.ensures.simulation_promise c.pack_tested.ensures (tested-kept _) in record { claim_value = whole.0; value = whole.1.0; simulation_promise = whole.1.1 }
+    let v = c.load_grid-n.ensures.loaded in let whole = simulation-exported w v c.is_simulation.ensures.claim_value c.is_simulation.ensures.simulation_promise c.pack_decided.ensures.tested (tested-kept _) in record { claim_value = whole.0; value = whole.1.0; simulation_promise = whole.1.1 }

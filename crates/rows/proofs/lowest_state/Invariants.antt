@@ -1,11 +1,7 @@
 use mathlib.Core.Path.{◌≡◌}
-use mathlib.Core.Bool.{false}
-use Prim.Native.Nat.{ℕ, ◌≤◌, ◌<◌, ◌*◌, ◌-◌}
-use Rattle.rows.specs.Rows.{in_row}
+use lib.ListN.{take}
+use Rattle.std.specs.List.{AllWithin}
 use Rattle.rows.proofs.lowest_state.Given as goal
 
 abbrev pub invariant-loop-c : goal.invariant-loop-c
-invariant-loop-c l = (l.c ≤ l.k) × ((q : ℕ) → q < l.c * 64 → in_row l.row q ≡ false)
-
-abbrev pub decreases-loop-c : goal.decreases-loop-c
-decreases-loop-c l = l.k - l.c
+invariant-loop-c l = AllWithin (λ x. x ≡ 0) (take l.k l.row) 0 l.c

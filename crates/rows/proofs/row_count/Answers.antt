@@ -1,33 +1,23 @@
 -- `rows::row_count` meets its contract: the ones of the words, summed, are the states. Assumes nothing.
 use mathlib.Core.Path.{◌∙◌}
-use Prim.Native.Nat.{◌<◌, ◌^◌}
-use native.Mathlib.Omega.{arith}
-use lib.Count.{ones-le}
-use lib.ListN.{get_or}
-use Rattle.rows.proofs.Counts.{ones-count, bits-states}
-use Rattle.lts.proofs.Below.{sum-none, sum_more, sum_done}
-use borrow.Author.Rules.{rules}
+use lib.Count.{ones}
+use lib.ListN.{take}
+use Rattle.std.proofs.Common.{rules, tests}
+use Rattle.std.proofs.lemmas.Iterator.{YieldsList-from_slice, YieldsList-from_map}
+use Rattle.std.proofs.lemmas.Iterator.Consumers.{sum_by_from_yields_List, fits_by_from_yields_list}
+use Rattle.rows.proofs.Counts.{ones-fit, ones-states}
 use Rattle.rows.proofs.row_count.Goals as goal
 
-pub loop-c-init : goal.loop-c-init
-loop-c-init c = (search rules, search rules, sum-none _)
-
--- the word that is read
-word : (c : goal.After-shared_slice_known-1) → get_or c.args.row.now c.loop-c.c 0 < 2 ^ 64
-word c = (c.type_inv.row c.loop-c.c).fits
-
-pub overflow_cast-total : goal.overflow_cast-total
-overflow_cast-total c = omega (arith, ones-le 64 _ (word c))
-
-pub overflow_add-total : goal.overflow_add-total
-overflow_add-total c = omega (arith, ones-le 64 _ (word c))
-
-pub loop-c-preserved : goal.loop-c-preserved
-loop-c-preserved c = (
-  search rules,
-  omega (arith, ones-le 64 _ (word c)),
-  sum_more _ c.loop-c.c c.loop-c.invariant.2 (ones-count 64 (word c)),
-)
+pub sum-requires-clause-fits : goal.sum-requires-clause-fits
+sum-requires-clause-fits c =
+    let words = take c.args.k c.args.row.now in
+    fits_by_from_yields_list ones words _ _
+    (YieldsList-from_map _ ones (YieldsList-from_slice words cc) c.map.ensures.closure (λ x r q k. search (rules, tests)))
+    (ones-fit c.args.row.now c.args.k (λ j. (c.type_inv.row j).fits) c.requires.0 c.requires.1)
 
 pub returns : goal.returns
-returns c = sum_done _ _ _ c.loop-c.invariant.2 (omega arith) ∙ bits-states c.args.k c.args.row.now
+returns c =
+    let words = take c.args.k c.args.row.now in
+    sum_by_from_yields_List ones words _ _ c.sum.ensures.ran
+    (YieldsList-from_map _ ones (YieldsList-from_slice words cc) c.map.ensures.closure (λ x r q k. search (rules, tests)))
+    ∙ ones-states c.args.row.now c.args.k (λ j. (c.type_inv.row j).fits) c.requires.0

@@ -1,25 +1,8 @@
--- `rows::row_differs` meets its contract: by `word-found` and `word-passed`. Assumes nothing.
-use native.Mathlib.Nat.{not-suc-le-zero}
-use native.Mathlib.Omega.{arith}
-use Rattle.rows.proofs.Rows.{xor-bitwise}
-use Rattle.rows.proofs.Tests.{word-found, word-passed, none_passed}
-use borrow.Author.Rules.{rules}
+-- `rows::row_differs` meets its contract, by `differs`. Assumes nothing.
+use mathlib.Core.Path.{◌∙◌}
+use Rattle.rows.proofs.Tests.{differs}
 use Rattle.rows.proofs.row_differs.Goals as goal
 
-pub loop-c-init : goal.loop-c-init
-loop-c-init c = (search rules, λ q h. absurd (not-suc-le-zero h))
-
-pub returns-then-a-c-ne0 : goal.returns-then-a-c-ne0
-returns-then-a-c-ne0 c =
-    let j = c.loop-c.c in
-    word-found _ _ xor-bitwise c.args.a.now c.args.b.now j (c.type_inv.a j).fits (c.type_inv.b j).fits _ c.loop-c-test.true c.if-a-c-ne0.true
-
-pub loop-c-preserved : goal.loop-c-preserved
-loop-c-preserved c =
-    let j = c.loop-c.c in (
-      search rules,
-      word-passed _ _ xor-bitwise c.args.a.now c.args.b.now j (c.type_inv.a j).fits (c.type_inv.b j).fits c.if-a-c-ne0.false c.loop-c.invariant.1,
-    )
-
 pub returns : goal.returns
-returns c = none_passed _ c.loop-c.c _ (omega arith) c.loop-c.invariant.1
+returns c =
+    c.ne.ensures ∙ differs c.args.a.now c.args.b.now (λ j. (c.type_inv.a j).fits) (λ j. (c.type_inv.b j).fits) c.args.k c.requires.0 c.requires.1

@@ -7,20 +7,16 @@ use borrow.Author.Rules.{rules}
 use Rattle.sets.proofs.from_matrix.Goals as goal
 
 pub loop-p-init : goal.loop-p-init
-loop-p-init c = (search rules, c.requires.2 ∙ rows_none _)
-
-pub row_set-requires : goal.row_set-requires
-row_set-requires c = (c.requires.0, c.requires.1, search rules)
+loop-p-init c = c.requires.2 ∙ rows_none _
 
 pub put-requires : goal.put-requires
-put-requires c = omega (arith, sets-long 256 _ c.loop-p.invariant.1, c.loop-p-test.true, c.requires.0)
+put-requires c = omega (arith, sets-long 256 _ c.loop-p.invariant)
 
 pub loop-p-preserved : goal.loop-p-preserved
-loop-p-preserved c =
-    (search rules, rows-put _ c.loop-p.p c.loop-p.list _ c.loop-p.invariant.1 c.row_set.ensures c.put.ensures)
+loop-p-preserved c = rows-put _ c.loop-p.p c.loop-p.list _ c.loop-p.invariant c.row_set.ensures c.put.ensures
 
 pub shape_of-list : goal.shape_of-list
-shape_of-list c = sets-long 256 _ c.loop-p.invariant.1 ∙ sym (sets-long 256 _ c.requires.2)
+shape_of-list c = sets-long 256 _ c.loop-p.invariant ∙ sym (sets-long 256 _ c.requires.2)
 
 pub returns : goal.returns
-returns c = c.loop-p.invariant.1 ∙ rows_whole _ _ _ (search rules)
+returns c = c.loop-p.invariant ∙ rows_whole _ _ _ (search rules)

@@ -1,5 +1,4 @@
 use mathlib.Core.Path.{◌≡◌}
-use Prim.Native.Nat.{◌-◌, ◌≤◌}
 use Rattle.rows.specs.Rows.{states_below}
 use Rattle.relation.specs.Matrix.{relation_of}
 use Rattle.sets.specs.Sets.{sets_of}
@@ -7,7 +6,4 @@ use Rattle.sets.proofs.Matrices.{first_rows}
 use Rattle.sets.proofs.from_matrix.Given as goal
 
 abbrev pub invariant-loop-p : goal.invariant-loop-p
-invariant-loop-p l = (l.p ≤ l.n) × (l.list ≡ sets_of 256 (first_rows l.p (λ t. states_below l.n (relation_of l.n l.grid t))))
-
-abbrev pub decreases-loop-p : goal.decreases-loop-p
-decreases-loop-p l = l.n - l.p
+invariant-loop-p l = l.list ≡ sets_of 256 (first_rows l.p (λ t. states_below l.n (relation_of l.n l.grid t)))

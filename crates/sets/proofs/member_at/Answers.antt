@@ -4,14 +4,14 @@ use mathlib.Core.Bool.{true}
 use mathlib.Core.List.{List}
 use Prim.Native.Nat.{ℕ, ◌+◌, ◌-◌, ◌*◌, ◌^◌, ◌<◌, ◌≤◌}
 use native.Mathlib.Omega.{arith}
-use lib.Count.{ones, ones-le}
-use lib.ListN.{length, get_or}
+use lib.Count.{ones}
+use lib.ListN.{length, get_or, take}
+use lib.Seq.{get_or-take, length-take-le}
 use Rattle.lts.specs.Bounded.{passing}
 use Rattle.rows.specs.Rows.{bit, in_row}
 use Rattle.lts.proofs.Lists.{passing-none, passing-same, passing-add, passing-place, length-passing}
 use Rattle.rows.proofs.Counts.{ones-count}
 use Rattle.rows.proofs.Rows.{in_row-at}
-use borrow.Author.Rules.{rules}
 use Rattle.sets.proofs.member_at.Goals as goal
 
 -- the states below place r of word c: those of the words before it, and the ones below r
@@ -41,32 +41,24 @@ module _ (a : List ℕ) (j left c : ℕ) (reached : left + length (passing (c * 
       place ∙ sym (passing-place (in_row a) 256 (c * 64 + r) (omega (arith, h, one.0)) (in_row-at a c r one.0 ∙ one.1))
       ∙ ap (λ (i : ℕ). get_or (passing 256 (in_row a)) i 0) count
 
-pub loop-c-init : goal.loop-c-init
-loop-c-init c = (search rules, omega (arith, passing-none (in_row c.args.a.now)))
+-- word c, of the first four
+front : (a : List ℕ) (c : ℕ) → 4 ≤ length a → c < length (take 4 a) → (c < 4) × (get_or (take 4 a) c 0 ≡ get_or a c 0)
+front a c room h = let low : c < 4 = omega (arith, h, length-take-le 4 a room) in (low, get_or-take 4 a c 0 low)
 
-pub overflow_cast-ones : goal.overflow_cast-ones
-overflow_cast-ones c = omega (arith, ones-le 64 _ (c.type_inv.a c.loop-c.c).fits)
+pub loop-c-init : goal.loop-c-init
+loop-c-init c = omega (arith, passing-none (in_row c.args.a.now))
 
 pub one_at-requires : goal.one_at-requires
-one_at-requires c = omega (arith, c.if-left-ones.true, ones-listed _ (c.type_inv.a c.loop-c.c).fits)
-
-pub overflow_add-result : goal.overflow_add-result
-overflow_add-result c = omega (arith, c.one_at.ensures.0, c.loop-c-test.true)
+one_at-requires c =
+    let here = front _ _ c.requires.0 c.loop-c-test.true in
+    rw here.1 (omega (arith, c.if-left-ones.true, ap ones here.1, ones-listed _ (c.type_inv.a c.loop-c.c).fits))
 
 pub returns-then-left-ones : goal.returns-then-left-ones
 returns-then-left-ones c =
-    found_here _ _ c.loop-c.left c.loop-c.c c.loop-c.invariant.1 c.one_at.result c.loop-c-test.true c.one_at.ensures
+    let here = front _ _ c.requires.0 c.loop-c-test.true in
+    found_here _ _ c.loop-c.left c.loop-c.c c.loop-c.invariant c.one_at.result here.0 (rw here.1 at c.one_at.ensures)
 
 pub loop-c-preserved : goal.loop-c-preserved
 loop-c-preserved c =
-    (search rules, passed_over _ _ c.loop-c.left c.loop-c.c c.loop-c.invariant.1 (c.type_inv.a _).fits c.if-left-ones.false)
-
-pub returns : goal.returns
-returns c =
-    let end : c.loop-c.c ≡ 4 = omega (arith, c.loop-c.invariant.0, c.loop-c-test.false) in
-    absurd (omega (
-      arith,
-      c.loop-c.invariant.1,
-      c.requires.1,
-      ap (λ (n : ℕ). length (passing (n * 64) (in_row c.args.a.now))) end,
-    ))
+    let here = front _ _ c.requires.0 c.loop-c-test.true in
+    rw here.1 (passed_over _ _ c.loop-c.left c.loop-c.c c.loop-c.invariant (c.type_inv.a _).fits (omega (arith, c.if-left-ones.false, ap ones here.1)))

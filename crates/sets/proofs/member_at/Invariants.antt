@@ -1,12 +1,9 @@
 use mathlib.Core.Path.{◌≡◌}
-use Prim.Native.Nat.{◌+◌, ◌-◌, ◌*◌, ◌≤◌}
+use Prim.Native.Nat.{◌+◌, ◌*◌}
 use lib.ListN.{length}
 use Rattle.lts.specs.Bounded.{passing}
 use Rattle.rows.specs.Rows.{in_row}
 use Rattle.sets.proofs.member_at.Given as goal
 
 abbrev pub invariant-loop-c : goal.invariant-loop-c
-invariant-loop-c l = (l.c ≤ 4) × (l.left + length (passing (l.c * 64) (in_row l.a)) ≡ l.j)
-
-abbrev pub decreases-loop-c : goal.decreases-loop-c
-decreases-loop-c l = 4 - l.c
+invariant-loop-c l = l.left + length (passing (l.c * 64) (in_row l.a)) ≡ l.j

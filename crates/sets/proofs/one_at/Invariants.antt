@@ -1,5 +1,5 @@
 use mathlib.Core.Path.{◌≡◌}
-use Prim.Native.Nat.{ℕ, ◌-◌, ◌≤◌}
+use Prim.Native.Nat.{ℕ}
 use lib.ListN.{length}
 use Rattle.lts.specs.Bounded.{passing}
 use Rattle.rows.specs.Rows.{bit}
@@ -12,8 +12,5 @@ pub record Dropped (word i left : ℕ) : Type 0 where
   pub rest : Rest word from left
   pub count : length (passing from (bit word)) ≡ i
 
-abbrev pub invariant-loop-i : goal.invariant-loop-i
-invariant-loop-i l = (l.i ≤ l.j) × Dropped l.word l.i l.left
-
-abbrev pub decreases-loop-i : goal.decreases-loop-i
-decreases-loop-i l = l.j - l.i
+abbrev pub invariant-loop : goal.invariant-loop
+invariant-loop l = Dropped l.word l.counter l.left

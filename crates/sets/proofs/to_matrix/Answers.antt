@@ -15,15 +15,12 @@ use borrow.Author.Rules.{rules}
 use Rattle.sets.proofs.to_matrix.Goals as goal
 
 pub loop-p-init : goal.loop-p-init
-loop-p-init c = (search rules, matrix-relation _ _ c.requires.n_bound.2 (λ j. (c.slice_known-1.given j).fits) ∙ rows-begin _ _ _)
-
-pub at-row-requires : goal.at-row-requires
-at-row-requires c = omega (arith, c.loop-p-test.true, c.requires.n_bound.0, c.requires.n_bound.1)
+loop-p-init c = matrix-relation _ _ c.requires.n_bound.2 (λ j. (c.type_inv.grid j).fits) ∙ rows-begin _ _ _
 
 pub set_row-requires : goal.set_row-requires
 set_row-requires c =
     let hp : c.loop-p.p < c.args.n = c.loop-p-test.true in (
-      formed-of _ _ c.loop-p.invariant.1,
+      formed-of _ _ c.loop-p.invariant,
       c.requires.n_bound.0,
       hp,
       record {
@@ -37,15 +34,13 @@ set_row-requires c =
 pub loop-p-preserved : goal.loop-p-preserved
 loop-p-preserved c =
     let n = c.args.n in
-    let hp : c.loop-p.p < n = c.loop-p-test.true in (
-      search rules,
-      c.set_row.ensures
-          ∙ row-set n (set_at c.args.list.now) (relation_of n c.args.grid.now) c.loop-p.p c.loop-p.grid hp c.loop-p.invariant.1 (in_row c.at-row.result)
-          (λ q hq. set-in _ c.at-row.ensures q (omega (arith, hq, c.requires.n_bound.0))),
-    )
+    let hp : c.loop-p.p < n = c.loop-p-test.true in
+    c.set_row.ensures
+    ∙ row-set n (set_at c.args.list.now) (relation_of n c.args.grid.now) c.loop-p.p c.loop-p.grid hp c.loop-p.invariant (in_row c.at-row.result)
+    (λ q hq. set-in _ c.at-row.ensures q (omega (arith, hq, c.requires.n_bound.0)))
 
 pub shape_of-grid : goal.shape_of-grid
-shape_of-grid c = ap length c.loop-p.invariant.1 ∙ length-matrix_of _ _ ∙ sym c.requires.n_bound.2.long
+shape_of-grid c = ap length c.loop-p.invariant ∙ length-matrix_of _ _ ∙ sym c.requires.n_bound.2.long
 
 pub returns : goal.returns
-returns c = c.loop-p.invariant.1 ∙ rows_end _ _ _ _ 0 (search rules)
+returns c = c.loop-p.invariant ∙ rows_end _ _ _ _ 0 (search rules)

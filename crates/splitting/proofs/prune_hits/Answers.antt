@@ -18,11 +18,7 @@ returns-then-not-any c =
     record {
       hit = λ g. false;
       meets = meets-none (set_at c.args.blocks.now) (in_row c.args.hits) (λ g. false) (any-off 256 _ (sym any-is ∙ c.if-not-any.true)) (λ t ht. refl);
-      pruned = sets-ext 256 _ c.requires.0 (λ j. (c.slice_known-1.given j).fits)
+      pruned = sets-ext 256 _ c.requires.0 (λ j. (c.type_inv.related j).fits)
           ∙ sets-cong 256 _ _ (λ g h hg hh. sym (and-true (K g h)));
       reported = row-ext 4 _ (replicate 4 0) refl (λ j. subst⁻¹ (λ (x : ℕ). x < 2 ^ 64) (get_or-zeros 4 j) (pow_pos 64)) (λ q h. in_row-zeros 4 q);
     }
-
-pub returns : goal.returns
-returns c =
-    record { hit = _; meets = c.meeting_rows-hit.ensures; pruned = c.prune.ensures.related_after; reported = c.prune.ensures.value }

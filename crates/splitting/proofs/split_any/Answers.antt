@@ -13,8 +13,8 @@ returns-else-any c =
     let Rem = in_row c.args.rem in
     let K = set_at c.args.related.now in
     let P = set_at c.args.blocks.now in record {
-      related_after = sets-ext 256 _ c.requires.0 (λ j. (c.slice_known-1.given j).fits)
+      related_after = sets-ext 256 _ c.requires.0 (λ j. (c.type_inv.related j).fits)
           ∙ sets-cong 256 _ _ (λ g h hg hh. related-unsplit Rem K P g h (c.requires.2 g h hg hh (off g hg)));
-      blocks_after = sets-ext 256 _ c.requires.1 (λ j. (c.slice_known-2-1.given j).fits)
+      blocks_after = sets-ext 256 _ c.requires.1 (λ j. (c.type_inv.blocks j).fits)
           ∙ sets-cong 256 _ _ (λ g h hg hh. blocks-unsplit Rem P g h (c.requires.2 g h hg hh (off g hg)));
     }

@@ -19,9 +19,8 @@ returns-then-contains c =
     let K = set_at c.args.related.now in
     let P = set_at c.args.blocks.now in
     let Rem = in_row c.args.rem in
-    let own = sym contains-is ∙ held in
-    let known = c.slice_known-1.given in record {
-      related_after = unwritten c.args.g c.args.related.now (split_related Rem K P) c.requires.0 (λ j. (known j).fits)
+    let own = sym contains-is ∙ held in record {
+      related_after = unwritten c.args.g c.args.related.now (split_related Rem K P) c.requires.0 (λ j. (c.type_inv.related j).fits)
           (λ h hh. related-inside Rem K P c.args.g h own);
       blocks_after = written c.args.g c.args.blocks.now _ (split_blocks Rem P) c.requires.1 put_is
           (λ h hh. set-in _ meet-is h hh ∙ ap (λ (b : Bool). b && Rem h) (set-in _ at-is h hh)

@@ -14,9 +14,6 @@ returns-then-not-any c =
     let P = set_at c.args.blocks.now in
     whole-unsplit P (in_row c.args.shared) c.requires.1 (in_row c.args.rem) _ _ _ (set-in _ meet-is) (meets-none P _ _ off off) (λ g hg. refl)
 
-pub returns-then-differ : goal.returns-then-differ
-returns-then-differ c = c.sweep_split.ensures
-
 pub returns : goal.returns
 returns c =
     let meet-is = c.meet-cut.ensures in

@@ -12,7 +12,7 @@ use Rattle.sets.specs.Sets.{set_at}
 use Rattle.sets.specs.Parts.{Parted}
 use Rattle.sets.proofs.Lists.{set-in}
 use Rattle.splitting.specs.Split.{Unsplit}
-use Rattle.sets.proofs.Sweep.{Swept, sweep-first, sweep-next, sweep-end}
+use Rattle.sets.proofs.Sweep.{Swept, sweep-next, sweep-end}
 use Rattle.splitting.proofs.sweep_split.Invariants.{Added}
 use Rattle.splitting.proofs.sweep_split.Goals as goal
 
@@ -75,9 +75,6 @@ module _ (P : Rel) (shared Rem : Set) (parts : Parted P shared) where
           go false e false d = refl
           go true e false d = absurd (clash (split h k k hh hk hk e d back back) outside)
           go false e true d = absurd (clash (split k h k hk hh hk d e p (parts.trans k h k hk hh hk p back)) outside)
-
-pub loop-x-init : goal.loop-x-init
-loop-x-init c = sweep-first _ _ (λ y h e l. absurd (clash l e)) c.next_state-x.ensures
 
 pub loop-x-preserved : goal.loop-x-preserved
 loop-x-preserved c =

@@ -1,4 +1,3 @@
-use Prim.Native.Nat.{◌-◌, ◌≤◌}
 use mathlib.Core.Path.{◌≡◌}
 use lib.ListN.{replicate}
 use Rattle.rows.proofs.Rows.{gathered}
@@ -6,7 +5,4 @@ use Rattle.starts.proofs.Words.{sets-bit}
 use Rattle.starts.proofs.action_words.Given as goal
 
 abbrev pub invariant-loop-i : goal.invariant-loop-i
-invariant-loop-i l = (l.i ≤ l.k) × (l.words ≡ gathered (replicate 256 0) (sets-bit l.table) l.i)
-
-abbrev pub decreases-loop-i : goal.decreases-loop-i
-decreases-loop-i l = l.k - l.i
+invariant-loop-i l = l.words ≡ gathered (replicate 256 0) (sets-bit l.table) l.i

@@ -18,13 +18,13 @@ use Rattle.starts.proofs.write_ready.Goals.{In-loop-p}
 use Rattle.starts.proofs.write_ready.Goals as goal
 
 pub loop-p-init : goal.loop-p-init
-loop-p-init c = (search rules, search rules, rows_none _ _ _)
+loop-p-init c = (search rules, rows_none _ _ _)
 
 -- row p lies within the matrix
 room : (c : In-loop-p) → let w = c.row_words-w.result in c.loop-p.p * w + w ≤ length c.loop-p.grid
 room c =
     row_fits c.states-n.result c.loop-p.grid c.row_words-w.ensures c.loop-p-test.true
-    (c.loop-p.invariant.1 ∙ c.requires.1 ∙ ap (λ (n : ℕ). n * row_words n) (sym c.states-n.ensures.0))
+    (c.loop-p.invariant.0 ∙ c.requires.1 ∙ ap (λ (n : ℕ). n * row_words n) (sym c.states-n.ensures.0))
 
 pub overflow_mul-at : goal.overflow_mul-at
 overflow_mul-at c = omega (arith, room c)
@@ -46,9 +46,8 @@ loop-p-preserved c =
     let t = c.args.table.now in
     let g = c.loop-p.grid in
     let at = c.loop-p.p * c.row_words-w.result in (
-      search rules,
-      same_len_mid {X = ℕ} at (length g - at) g c.row_copy.new.row c.row_copy.auto.row ∙ c.loop-p.invariant.1,
-      rows_more c.states-n.result (ready_preorder (table_lts t)) c.row_words-w.ensures _ _ _ _ c.loop-p.invariant.2
+      same_len_mid {X = ℕ} at (length g - at) g c.row_copy.new.row c.row_copy.auto.row ∙ c.loop-p.invariant.0,
+      rows_more c.states-n.result (ready_preorder (table_lts t)) c.row_words-w.ensures _ _ _ _ c.loop-p.invariant.1
           (c.row_copy.ensures
           ∙ ap (λ (l : List ℕ). l ++ drop c.row_words-w.result (take (length g - at) (drop at g)))
           (row-of-table t c.requires.0 c.states-n.ensures.0 c.row_words-w.ensures c.loop-p-test.true c.terminating-terminating.ensures
@@ -59,5 +58,5 @@ pub returns : goal.returns
 returns c =
     let states = c.states-n.ensures.0 in
     let R = ready_preorder (table_lts c.args.table.now) in
-    rows-done _ R _ _ _ c.loop-p.invariant.2 (c.requires.1 ∙ ap (λ (n : ℕ). n * row_words n) (sym states)) (omega (arith, c.loop-p.invariant.0, c.loop-p-test.false))
+    rows-done _ R _ _ _ c.loop-p.invariant.1 (c.requires.1 ∙ ap (λ (n : ℕ). n * row_words n) (sym states)) (search rules)
     ∙ ap (λ (n : ℕ). matrix_of n R) states

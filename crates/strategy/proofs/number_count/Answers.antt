@@ -1,12 +1,20 @@
 -- `strategy::number_count` meets its contract, by its test.
-use borrow.Author.Tests.{le-leb, lt-leb}
+use Prim.Native.Nat.{ℕ, ◌*◌, min}
+use mathlib.Core.Path.{◌≡◌, refl}
+use mathlib.Core.Bool.{Bool, true, false, cond}
+use native.Mathlib.Omega.{arith}
+use lib.Dec.{leb}
+use borrow.Author.Tests.{leb-true, leb-false}
 use Rattle.strategy.specs.Within.{number_count}
 use Rattle.strategy.proofs.number_count.Goals as goal
 
-pub returns-then-room-le65536 : goal.returns-then-room-le65536
+counted : (room n : ℕ) → n ≡ min room 65536 → 4 * n ≡ number_count room
 unfolding number_count
-returns-then-room-le65536 c = rw (le-leb _ _ c.if-room-le65536.true)
+counted room n e = by (leb room 65536) refl
+  where
+    by : (b : Bool) → leb room 65536 ≡ b → 4 * n ≡ cond b (4 * room) 262144
+    by true t = let h = leb-true room 65536 t in omega (arith, h, e)
+    by false t = let h = leb-false room 65536 t in omega (arith, h, e)
 
-pub returns-else-room-le65536 : goal.returns-else-room-le65536
-unfolding number_count
-returns-else-room-le65536 c = rw (lt-leb _ _ c.if-room-le65536.false)
+pub returns : goal.returns
+returns c = counted _ _ c.min.ensures

@@ -31,21 +31,21 @@ pub slice_bounds-numbers-end : goal.slice_bounds-numbers-end
 slice_bounds-numbers-end c =
     omega (arith, c.entry_count-count.ensures, c.write_within-answer.ensures.whole)
 
-pub slice_bounds-store_numbers-end : goal.slice_bounds-store_numbers-end
-slice_bounds-store_numbers-end c =
+pub slice_bounds-store-end : goal.slice_bounds-store-end
+slice_bounds-store-end c =
     sym (length-take-le _ _ (omega (arith, c.entry_count-count.ensures, c.write_within-answer.ensures.whole)))
 
-pub store_numbers-requires : goal.store_numbers-requires
-store_numbers-requires c =
+pub store-requires : goal.store-requires
+store-requires c =
     simp length-take (omega (arith, c.entry_count-count.ensures, c.write_within-answer.ensures.fits))
 
 pub shape_of-plan : goal.shape_of-plan
-shape_of-plan c = c.store_numbers.auto.bytes
+shape_of-plan c = c.store.auto.bytes
 
 pub returns : goal.returns
 returns c =
     let w = c.write_within-answer.ensures in
     let size = 4 * c.entry_count-count.result in
     let is = stored-within c.args.s.now c.args.start.now c.args.p c.args.q c.args.plan.now w size (omega (arith, c.entry_count-count.ensures))
-    ∙ sym (ap (λ (l : List ℕ). record { reply = write_reply c.write_within-answer.result; plan = l }) c.store_numbers.ensures) in
+    ∙ sym (ap (λ (l : List ℕ). record { reply = write_reply c.write_within-answer.result; plan = l }) c.store.ensures) in
     record { plan_value = is; write_promise = write-promised entries_of_bytes entry_bytes 8 bytes-carry c.args.s.now c.args.start.now c.args.p c.args.q c.args.plan.now _ _ is }

@@ -4,4 +4,4 @@ use Rattle.strategy_check.proofs.holds_pair.Goals as goal
 
 pub returns : goal.returns
 unfolding holds_pair
-returns c = rw (c.wide.ensures.0, c.wide-2.ensures.0)
+returns c = rw (c.from.ensures, c.from-2.ensures)

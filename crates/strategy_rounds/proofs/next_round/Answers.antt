@@ -14,11 +14,7 @@ use Rattle.strategy_rounds.proofs.next_round.Goals.{then-not-contains, else-not-
 use Rattle.strategy_rounds.proofs.next_round.Goals as goal
 
 pub loop-i-init : goal.loop-i-init
-loop-i-init c = let t = c.args.table.now in (
-  search rules,
-  c.copy_matrix.ensures ∙ matrix-relation _ _ c.requires.formed.1 (λ j. (c.type_inv.current j).fits)
-      ∙ kept-none t c.requires.formed.0 _,
-)
+loop-i-init c = c.copy_matrix.ensures ∙ matrix-relation _ _ c.requires.formed.1 (λ j. (c.type_inv.current j).fits) ∙ kept-none _ c.requires.formed.0 _
 
 -- the target of transition i is a state
 target : (c : In-loop-i) → let t = c.args.table.now in
@@ -30,25 +26,23 @@ pub contains-requires : goal.contains-requires
 contains-requires c = omega (arith, c.target.ensures.0, c.requires.formed.0.states, target (goal.at.contains-requires c).In-loop-i)
 
 pub keep_answering-requires : goal.keep_answering-requires
-keep_answering-requires c = (c.requires.formed.0, c.requires.formed.1, formed-of _ _ c.loop-i.invariant.1, search rules)
+keep_answering-requires c = (c.requires.formed.0, c.requires.formed.1, formed-of _ _ c.loop-i.invariant, search rules)
 
 pub shape_of-next : goal.shape_of-next
-shape_of-next c = ap length c.loop-i.invariant.1 ∙ length-matrix_of _ _ ∙ sym c.requires.formed.1.long ∙ c.requires.formed.2
+shape_of-next c = ap length c.loop-i.invariant ∙ length-matrix_of _ _ ∙ sym c.requires.formed.1.long ∙ c.requires.formed.2
 
 pub loop-i-preserved : goal.loop-i-preserved
 loop-i-preserved c = let t = c.args.table.now in
     let below : c.loop-i.i < count_of t = omega (arith, c.loop-i-test.true, c.count-k.ensures.0) in
     let R = relation_of (states_of t) c.args.current.now in
-    let X = in_row c.args.settled.now in (
-      search rules,
-      elim c.if-not-contains.branch [
-        | then-not-contains w ↦ w.next-is ∙ w.keep_answering.ensures ∙ kept_more t c.requires.formed.0 R c.loop-i.i below c.loop-i.invariant.1
-        | else-not-contains w ↦ w.next-is ∙ c.loop-i.invariant.1 ∙ kept-settled t c.requires.formed.0 R X c.loop-i.i c.requires.settled below (sym (ap (in_row c.args.settled.now) c.target.ensures.0) ∙ sym c.contains.ensures ∙ w.if-not-contains.false)
-      ],
-    )
+    let X = in_row c.args.settled.now in
+    elim c.if-not-contains.branch [
+      | then-not-contains w ↦ w.next-is ∙ w.keep_answering.ensures ∙ kept_more t c.requires.formed.0 R c.loop-i.i below c.loop-i.invariant
+      | else-not-contains w ↦ w.next-is ∙ c.loop-i.invariant ∙ kept-settled t c.requires.formed.0 R X c.loop-i.i c.requires.settled below (sym (ap (in_row c.args.settled.now) c.target.ensures.0) ∙ sym c.contains.ensures ∙ w.if-not-contains.false)
+    ]
 
 pub returns : goal.returns
 returns c = let t = c.args.table.now in
-    let end : c.loop-i.i ≡ count_of t = omega (arith, c.loop-i.invariant.0, c.loop-i-test.false, c.count-k.ensures.0) in
-    c.loop-i.invariant.1 ∙ ap (λ (i : ℕ). matrix_of (states_of t) (kept t (relation_of (states_of t) c.args.current.now) i)) end
+    let end : c.loop-i.i ≡ count_of t = omega (arith, c.loop-i-test.false, c.count-k.ensures.0) in
+    c.loop-i.invariant ∙ ap (λ (i : ℕ). matrix_of (states_of t) (kept t (relation_of (states_of t) c.args.current.now) i)) end
     ∙ kept-all t c.requires.formed.0 _

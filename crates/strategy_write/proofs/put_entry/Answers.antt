@@ -2,6 +2,7 @@
 use Prim.Native.Nat.{◌*◌}
 use native.Mathlib.Omega.{arith}
 use lib.ListN.{length-set}
+use Rattle.lts.specs.Strategy.{entry_numbers}
 use Rattle.strategy_write.proofs.Writes.{put_is}
 use Rattle.strategy_write.proofs.put_entry.Goals as goal
 
@@ -18,4 +19,5 @@ pub shape_of-numbers : goal.shape_of-numbers
 shape_of-numbers c = simp length-set
 
 pub returns : goal.returns
-returns c = put_is c.args.numbers.now (4 * c.args.at) c.args.p c.args.q c.args.a c.args.t
+unfolding entry_numbers
+returns c = put_is c.args.numbers.now (4 * c.args.at) c.args.entry.p c.args.entry.q c.args.entry.a c.args.entry.t

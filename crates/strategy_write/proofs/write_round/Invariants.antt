@@ -1,4 +1,4 @@
-use Prim.Native.Nat.{ℕ, ◌+◌, ◌-◌, ◌≤◌}
+use Prim.Native.Nat.{ℕ, ◌+◌}
 use mathlib.Core.Path.{◌≡◌}
 use mathlib.Core.Bool.{Bool}
 use mathlib.Core.List.{List}
@@ -15,7 +15,4 @@ abbrev pub rows : List ℕ → List ℕ → List ℕ → Bool → ℕ → List E
 rows table before after initial = row_entries (table_lts table) initial (pairs_of table before) (pairs_of table after)
 
 abbrev pub invariant-loop-p : goal.invariant-loop-p
-invariant-loop-p l = (l.p ≤ l.n) × (l.at ≡ l.first + length (concat_below l.p (rows l.table l.before l.after l.initial'))) × (l.numbers ≡ written l.initial.numbers l.first (rows l.table l.before l.after l.initial') l.p)
-
-abbrev pub decreases-loop-p : goal.decreases-loop-p
-decreases-loop-p l = l.n - l.p
+invariant-loop-p l = (l.at ≡ l.first + length (concat_below l.p (rows l.step.table.now l.step.before.now l.step.after.now l.step.initial))) × (l.numbers ≡ written l.initial.numbers l.first (rows l.step.table.now l.step.before.now l.step.after.now l.step.initial) l.p)

@@ -1,9 +1,5 @@
-use Prim.Native.Nat.{◌-◌, ◌≤◌}
 use Rattle.strategy_write.proofs.Progress.{Progress}
 use Rattle.strategy_write.proofs.write_rounds.Given as goal
 
 abbrev pub invariant-loop-i : goal.invariant-loop-i
-invariant-loop-i l = (l.i ≤ l.rounds) × Progress l.table l.initial.next l.initial.numbers l.i l.current l.next l.at l.numbers l.settled
-
-abbrev pub decreases-loop-i : goal.decreases-loop-i
-decreases-loop-i l = l.rounds - l.i
+invariant-loop-i l = Progress l.table l.initial.next l.initial.numbers l.i l.current l.next l.at l.numbers l.settled

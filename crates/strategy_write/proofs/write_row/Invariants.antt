@@ -1,4 +1,4 @@
-use Prim.Native.Nat.{ℕ, ◌+◌, ◌-◌, ◌≤◌}
+use Prim.Native.Nat.{ℕ, ◌+◌}
 use mathlib.Core.Path.{◌≡◌}
 use mathlib.Core.Bool.{Bool}
 use mathlib.Core.List.{List}
@@ -15,7 +15,4 @@ abbrev pub cells : List ℕ → List ℕ → List ℕ → Bool → ℕ → ℕ �
 cells table before after initial p = cell_entries (table_lts table) initial (pairs_of table before) (pairs_of table after) p
 
 abbrev pub invariant-loop-q : goal.invariant-loop-q
-invariant-loop-q l = (l.q ≤ l.n) × (l.at ≡ l.first + length (concat_below l.q (cells l.table l.before l.after l.initial' l.p))) × (l.numbers ≡ written l.initial.numbers l.first (cells l.table l.before l.after l.initial' l.p) l.q)
-
-abbrev pub decreases-loop-q : goal.decreases-loop-q
-decreases-loop-q l = l.n - l.q
+invariant-loop-q l = (l.at ≡ l.first + length (concat_below l.q (cells l.step.table.now l.step.before.now l.step.after.now l.step.initial l.p))) × (l.numbers ≡ written l.initial.numbers l.first (cells l.step.table.now l.step.before.now l.step.after.now l.step.initial l.p) l.q)

@@ -1,4 +1,4 @@
-use Prim.Native.Nat.{◌≤◌}
+use Prim.Native.Nat.{◌+◌, ◌-◌, ◌≤◌}
 use mathlib.Core.Bool.{◌||◌}
 use mathlib.Core.List.{map}
 use Rattle.rows.specs.Rows.{in_row}
@@ -9,10 +9,7 @@ use Rattle.transitions.proofs.Gathering.{Gathering}
 use Rattle.transitions.proofs.Gathering.{Masking}
 use Rattle.transitions.proofs.add_chain.Given as goal
 
-abbrev pub invariant-loop-left : goal.invariant-loop-left
-invariant-loop-left l = Recorded l.s l.h × (l.j ≤ l.h.transitions)
-    × Gathering 260 (λ x. chain_image l.maps l.s l.h l.p x || in_row l.initial.sets x) l.sets (map (record_to l.maps l.s l.h) (walk l.s l.h l.left l.j))
-    × Masking (chain_image l.maps l.s l.h l.p) l.used (map (record_to l.maps l.s l.h) (walk l.s l.h l.left l.j))
-
-abbrev pub decreases-loop-left : goal.decreases-loop-left
-decreases-loop-left l = l.left
+abbrev pub invariant-loop : goal.invariant-loop
+invariant-loop l = Recorded l.s l.h × (l.j ≤ l.h.transitions)
+    × Gathering 260 (λ x. chain_image l.maps l.s l.h l.p x || in_row l.initial.sets x) l.sets (map (record_to l.maps l.s l.h) (walk l.s l.h (l.h.transitions + 1 - l.counter) l.j))
+    × Masking (chain_image l.maps l.s l.h l.p) l.used (map (record_to l.maps l.s l.h) (walk l.s l.h (l.h.transitions + 1 - l.counter) l.j))

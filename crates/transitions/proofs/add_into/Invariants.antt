@@ -1,13 +1,8 @@
-use Prim.Native.Nat.{◌≤◌, ◌-◌}
 use mathlib.Core.Path.{◌≡◌}
-use lib.ListN.{length}
 use Rattle.rows.specs.Rows.{in_row}
 use Rattle.rows.proofs.Rows.{gathered}
 use Rattle.transitions.proofs.Lookups.{hit}
 use Rattle.transitions.proofs.add_into.Given as goal
 
 abbrev pub invariant-loop-i : goal.invariant-loop-i
-invariant-loop-i l = (l.i ≤ l.k) × (length l.set ≡ length l.initial.set) × (l.set ≡ gathered l.initial.set (hit l.table l.a (in_row l.x)) l.i)
-
-abbrev pub decreases-loop-i : goal.decreases-loop-i
-decreases-loop-i l = l.k - l.i
+invariant-loop-i l = l.set ≡ gathered l.initial.set (hit l.table l.a (in_row l.x)) l.i

@@ -2,8 +2,7 @@
 use Prim.Native.Nat.{ℕ, ◌-◌, ◌+◌, ◌<◌}
 use mathlib.Core.Path.{◌≡◌, subst}
 use native.Mathlib.Omega.{arith}
-use Rattle.transitions.proofs.Links.{Linking, linking-start, linking-more, linking-done}
-use borrow.Author.Rules.{rules}
+use Rattle.transitions.proofs.Links.{Linking, linking-start, linking-more}
 use Rattle.transitions.proofs.link.Goals.{After-state_to-i}
 use Rattle.transitions.proofs.link.Goals as goal
 
@@ -16,16 +15,7 @@ image c =
 pub loop-p-init : goal.loop-p-init
 loop-p-init c = linking-start _ _ c.requires.0
 
-pub bounds-links-i : goal.bounds-links-i
-bounds-links-i c = omega (arith, image c)
-
-pub bounds-links-i-in-loop-p : goal.bounds-links-i-in-loop-p
-bounds-links-i-in-loop-p c = omega (arith, image c)
-
 pub loop-p-preserved : goal.loop-p-preserved
 loop-p-preserved c =
     let up : c.loop-p.p ≡ c.loop-p.p - 1 + 1 = omega (arith, c.loop-p-test.true) in
     linking-more (c.loop-p.p - 1) (subst (λ (q : ℕ). Linking c.args.n c.args.maps.now q c.loop-p.links) up c.loop-p.invariant) c.requires.0 _ c.state_to-i.ensures.0 (image c)
-
-pub returns : goal.returns
-returns c = linking-done c.loop-p.invariant (search rules)

@@ -3,6 +3,3 @@ use Rattle.transitions.proofs.link.Given as goal
 
 abbrev pub invariant-loop-p : goal.invariant-loop-p
 invariant-loop-p l = Linking l.n l.maps l.p l.links
-
-abbrev pub decreases-loop-p : goal.decreases-loop-p
-decreases-loop-p l = l.p

@@ -1,4 +1,4 @@
-use Prim.Native.Nat.{ℕ, ◌-◌, ◌≤◌}
+use Prim.Native.Nat.{ℕ}
 use mathlib.Core.Path.{◌≡◌}
 use mathlib.Core.Bool.{false}
 use Rattle.lts.specs.System.{Lts}
@@ -7,8 +7,5 @@ use Rattle.transitions.specs.Loading.{Images, Loading}
 use Rattle.transitions.proofs.load_rows.Given as goal
 
 abbrev pub invariant-loop-i : goal.invariant-loop-i
-invariant-loop-i l = (l.i ≤ l.high) × (l.low ≤ l.i) × (l.sets ≡ row_of 260 (λ x. false))
+invariant-loop-i l = (l.sets ≡ row_of 260 (λ x. false))
     × ((m : ℕ) (L : Lts) → Loading L l.s l.h l.maps m l.low l.initial.table → Images L l.s l.maps l.low l.high → Loading L l.s l.h l.maps m l.i l.table)
-
-abbrev pub decreases-loop-i : goal.decreases-loop-i
-decreases-loop-i l = l.high - l.i

@@ -1,4 +1,3 @@
-use Prim.Native.Nat.{◌≤◌, ◌-◌}
 use mathlib.Core.Path.{◌≡◌}
 use lib.Dec.{eqb}
 use Rattle.rows.proofs.Rows.{picked}
@@ -6,7 +5,4 @@ use Rattle.transitions.specs.Table.{mark_at}
 use Rattle.transitions.proofs.terminating.Given as goal
 
 abbrev pub invariant-loop-p : goal.invariant-loop-p
-invariant-loop-p l = (l.p ≤ l.n) × (l.set ≡ picked (λ i. eqb (mark_at l.table i) 1) l.p)
-
-abbrev pub decreases-loop-p : goal.decreases-loop-p
-decreases-loop-p l = l.n - l.p
+invariant-loop-p l = l.set ≡ picked (λ i. eqb (mark_at l.table i) 1) l.p

@@ -1,19 +1,21 @@
--- `encoding::LabelRecord::fits` meets its contract: the bytes up to d follow each other.
-use Rattle.lts.proofs.Lists.{all_none, all_more}
-use Rattle.encoding.proofs.Labels.{fits-stop, fits-done}
-use borrow.Author.Rules.{rules}
-use mathlib.Core.Path.{ap}
-use mathlib.Core.Bool.{not}
+-- `encoding::LabelRecord::fits` meets its contract, by `all_range`.
+use Prim.Native.Nat.{◌+◌}
+use mathlib.Core.Path.{sym, ap, ap₂, ◌∙◌}
+use mathlib.Core.Bool.{Bool, ◌&&◌}
+use lib.ListN.{get_or}
+use Rattle.std.proofs.Common.{rules, tests}
+use Rattle.lts.specs.Bounded.{all_below}
+use Rattle.lts.proofs.Ranges.{all_range}
+use Rattle.encoding.specs.Labels.{follows, visible, label_fits}
 use Rattle.encoding.proofs.LabelRecord.fits.Goals as goal
 
-pub loop-d-init : goal.loop-d-init
-loop-d-init c = (search rules, all_none _)
+pub returns-then-visible : goal.returns-then-visible
+unfolding label_fits
+returns-then-visible c =
+    let x = c.args.self.bytes in
+    let all = all_range 15 (λ d. follows (get_or x d 0) (get_or x (d + 1) 0)) _ c.all.ensures.ran (λ d b q k. search (rules, tests)) in
+    rw (← c.visible.ensures, c.if-visible.true) all
 
-pub returns-then-not-follows : goal.returns-then-not-follows
-returns-then-not-follows c = fits-stop _ _ (search rules) c.follows.ensures (ap not c.if-not-follows.true)
-
-pub loop-d-preserved : goal.loop-d-preserved
-loop-d-preserved c = (search rules, all_more _ _ c.loop-d.invariant.1 c.follows.ensures (ap not c.if-not-follows.false))
-
-pub returns : goal.returns
-returns c = fits-done _ _ c.visible.ensures c.loop-d.invariant.1 (search rules) (search rules)
+pub returns-else-visible : goal.returns-else-visible
+unfolding label_fits
+returns-else-visible c = rw (← c.visible.ensures, c.if-visible.false)
