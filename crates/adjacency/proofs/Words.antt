@@ -6,12 +6,13 @@ use Prim.Native.Nat.{ℕ, zero, suc, ◌+◌, ◌-◌, ◌^◌, ◌<◌}
 use native.Mathlib.Nat.{add-zero, add-suc}
 use lib.Bits.{bit_and, bit_or, or_lt}
 use lib.Count.{count_trailing_zeros}
+use lib.ListN.{length, get_or}
 use Rattle.lts.specs.Bounded.{any_below}
 use Rattle.lts.specs.System.{Set}
 use Rattle.lts.proofs.Below.{any-more, any-shorter}
 use Rattle.rows.specs.Rows.{bit, in_row, row_of, word_of}
 use Rattle.rows.proofs.Bits.{bit-or, bit-word_of, word_of-lt, word-ext}
-use Rattle.rows.proofs.Rows.{in_row-of, row_of-cong}
+use Rattle.rows.proofs.Rows.{in_row-of, row_of-cong, row-ext}
 use Rattle.sets.proofs.Walks.{Rest, Stepped, rest-begin, rest-next, rest_end}
 
 -- a test below a sum: below the first number, or from there on
@@ -45,9 +46,14 @@ module _ (w : ℕ) (from : List ℕ) (D : ℕ → Set) where
   abbrev pub Joining : ℕ → List ℕ → Type 0
   Joining left out = (i : ℕ) × Rest w i left × (out ≡ joined i)
 
-  pub join-begin : (S : Set) → from ≡ row_of 4 S → w < 2 ^ 64 → Joining w from
+  pub join-begin : length from ≡ 4 → ((j : ℕ) → get_or from j 0 < 2 ^ 64) → w < 2 ^ 64 → Joining w from
   unfolding any_below
-  join-begin S was h = (0, rest-begin w h, was ∙ row_of-cong 4 _ _ (λ q l. sym (or-false (in_row from q) ∙ ap (λ (r : List ℕ). in_row r q) was ∙ in_row-of 4 S q l)))
+  join-begin long words h = (0, rest-begin w h, row-ext 4 _ from long words (λ q l. sym (or-false (in_row from q))))
+
+  -- from the row of a set
+  pub join-row : (S : Set) → from ≡ row_of 4 S → w < 2 ^ 64 → Joining w from
+  unfolding any_below
+  join-row S was h = (0, rest-begin w h, was ∙ row_of-cong 4 _ _ (λ q l. sym (or-false (in_row from q) ∙ ap (λ (r : List ℕ). in_row r q) was ∙ in_row-of 4 S q l)))
 
   pub join_more : {left : ℕ} {out part next : List ℕ} → Joining left out → (left ≡ 0 → ⊥) → part ≡ row_of 4 (D (count_trailing_zeros 64 left))
       → next ≡ row_of 4 (λ x. in_row out x || in_row part x) → Joining (bit_and left (left - 1)) next

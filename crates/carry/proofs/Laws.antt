@@ -1,13 +1,13 @@
 -- Laws of numbers carried as bytes, over any width k: what one turn of each loop does.
-use Prim.Native.Nat.{ℕ, zero, suc, ◌+◌, ◌-◌, ◌*◌, ◌/◌, ◌^◌, ◌<◌, ◌≤◌}
+use Prim.Native.Nat.{ℕ, zero, suc, ◌+◌, ◌-◌, ◌*◌, ◌/◌, ◌%◌, ◌^◌, ◌<◌, ◌≤◌}
 use mathlib.Core.Path.{◌≡◌, refl, sym, ap, ◌∙◌}
 use mathlib.Core.List.{List, [], ◌∷◌, ◌++◌, append_assoc, append-nil}
 use native.Mathlib.Nat.{pow-le-pow_right, pow-suc, not-suc-le-zero, le_of_suc-le-suc, mul-suc, mul-zero}
 use native.Mathlib.Numerals.{add-one, sub-one}
 use native.Mathlib.Omega.{arith}
 use lib.Dec.{lit<}
-use lib.ListN.{length, get_or, take, drop, set, length-append, length-drop}
-use lib.Seq.{append_snoc, take-suc, take-length, take_at, take-add, drop-cons, drop-drop, drop_at, drop-length, set_at, length-take-le, slice, slice_empty, slice-cons}
+use lib.ListN.{length, get_or, take, drop, set, length-append, length-drop, take-append-drop}
+use lib.Seq.{append_snoc, take-suc, take-suc-set, take-length, take_at, take-add, drop-cons, drop-drop, drop_at, drop-length, set_at, length-take-le, slice, slice_empty, slice-cons}
 use Rattle.carry.specs.Carried.{number_of, digits, numbers_of, bytes_of, loaded, stored}
 
 -- Reading a number, from its last byte down: x is what the bytes from j to t carry.
@@ -33,11 +33,20 @@ bound-start t = let e : t - t ≡ 0 = omega arith in rw e (lit< tt)
 pub bound-down : (j t x y : ℕ) → 0 < j → j ≤ t → x < 256 ^ (t - j) → y < 256 → x * 256 + y < 256 ^ (t - (j - 1))
 bound-down j t x y h l b g = let e : t - (j - 1) ≡ suc (t - j) = omega arith in rw (e, pow-suc 256 (t - j)) (omega arith)
 
--- the bytes of a number
+-- Writing a number: the bytes to j are written, and `digits (t - j) x` and `rest` are still to come.
 pub digits-length : (k x : ℕ) → length (digits k x) ≡ k
 unfolding digits
 digits-length zero x = refl
 digits-length (suc k) x = ap suc (digits-length k (x / 256))
+
+module _ {T : List ℕ} (j t x : ℕ) (b rest : List ℕ) where
+  pub digits_more : j < t → t ≤ length b → take j b ++ (digits (t - j) x ++ rest) ≡ T → take (j + 1) (set b j (x % 256)) ++ (digits (t - (j + 1)) (x / 256) ++ rest) ≡ T
+  unfolding digits
+  digits_more h l e = let d : t - j ≡ suc (t - suc j) = omega arith in rw (add-one, take-suc-set b j (x % 256) (omega arith), append_snoc) (rw d at e)
+
+  pub digits-done : j ≡ t → drop t b ≡ rest → take j b ++ (digits (t - j) x ++ rest) ≡ T → b ≡ T
+  unfolding digits
+  digits-done h l e = let d : t - j ≡ 0 = omega arith in sym (take-append-drop t b) ∙ (rw (d, h, ← l) at e)
 
 -- Reading numbers: i of them are read, the rest is as it was.
 pub numbers-length : (k n : ℕ) (bs : List ℕ) → length (numbers_of k n bs) ≡ n

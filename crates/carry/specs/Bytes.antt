@@ -28,3 +28,9 @@ pub record LoadedFrom (k most size : ℕ) (bytes : List ℕ) (r : ℕ) (numbers 
   pub few : r ≤ size
   pub long : length numbers ≡ size
   pub loaded : take r numbers ≡ carried_by k most bytes
+
+-- what a buffer of `most` numbers holds of a schedule's bytes: its first r numbers are the first of the schedule, at most `most`
+pub record LoadedSchedule (most : ℕ) (bytes : List ℕ) (r : ℕ) (numbers : List ℕ) : Type 0 where
+  pub few : r ≤ most
+  pub long : length numbers ≡ most
+  pub loaded : take r numbers ≡ take most (list_of bytes)

@@ -1,5 +1,5 @@
 // Checksums of the bytes that buffers carry.
-ghost use Rattle.std.specs.Prelude.{◌<◌};
+ghost use Rattle.std.specs.Prelude.{◌≡◌, ◌<◌};
 
 // The checksum of the bytes so far.
 #[derive(Clone, Copy)]
@@ -9,11 +9,17 @@ pub struct Checksum {
 }
 
 impl Checksum {
-    pub fn new() -> Checksum {
+    // Of no bytes.
+    pub fn new() -> Checksum
+        ensures { result.sum ≡ 0 }
+    {
         Checksum { sum: 0 }
     }
 
-    pub fn sum(self) -> u64 {
+    pub fn sum(self) -> u64
+        ensures value { result ≡ self.sum }
+        ensures small { result < 1000000007 }
+    {
         self.sum
     }
 

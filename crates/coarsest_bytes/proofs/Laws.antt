@@ -135,6 +135,9 @@ module _ (s start schedule grid representatives : List ℕ) where
       (λ q. refuses rules _ _ q.1 ∙ sym (refuses rules _ _ q.1))
       (finding rules)
 
+  pub front-is : {es : List ℕ} → es ≡ take 65280 schedule → on_words es ≡ on_words schedule
+  front-is e = rw e (cut-same 256 65280 (λ o. (bounds s start _ _ o).states) (le_refl 65280))
+
 -- a schedule's first 130560 bytes are enough, and its first 512 for 16 states
 module _ (s start bytes grid representatives : List ℕ) where
   abbrev on_bytes : List ℕ → CoarsestOutcome

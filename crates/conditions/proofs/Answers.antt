@@ -5,8 +5,6 @@ use mathlib.Core.Logic.{◌↔◌, ⊎_elim}
 use mathlib.Core.Bool.{Bool, true, false}
 use mathlib.Core.List.{List}
 use native.Mathlib.Omega.{arith}
-use native.Mathlib.Nat.{le_refl}
-use Rattle.std.specs.Prelude.{Option, Some, None, MatchOption, unwrap_or}
 use lib.Dec.{T, eqb, eqb→eq}
 use lib.ListN.{drop}
 use borrow.Author.Tests.{not-true, not-false}
@@ -27,13 +25,6 @@ unfolding answered_by
 answer-row t g q i {n} {a} {x} {row} en ea ex at e =
     e ∙ ap₂ (λ (b : ℕ) (X : Set). into (table_lts t) b X q) ea
     (ap in_row (at ∙ ap₂ (λ (y k : ℕ). drop (y * row_words k) g) ex en) ∙ fun_ext (λ y. in_row-drop (row_words (states_of t)) g (target_at t i) y))
-
--- what is found first in a range, or its end, is the next of S
-pub next-found : (S : Set) (first end : ℕ) → first ≤ end → (r : Option ℕ)
-    → MatchOption r ((k : ℕ) → first ≤ k → k < end → S k ≡ false) (λ i. (first ≤ i) × (i < end) × (S i ≡ true) × ((k : ℕ) → first ≤ k → k < i → S k ≡ false))
-    → Next S end first (unwrap_or r end)
-next-found S first end l (Some i) found = record { above = found.0; below = omega (arith, found.1); none = found.3; member = λ h. found.2 }
-next-found S first end l None none = record { above = l; below = le_refl end; none = none; member = λ h. absurd (omega (arith, h)) }
 
 module _ (t : List ℕ) (ok : Formed t) (R : Rel) (p q : ℕ) (hp : p < states_of t) where
   abbrev L : Lts

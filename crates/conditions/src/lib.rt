@@ -28,9 +28,13 @@ pub fn first_unanswered(table: &transitions::Table, grid: &[u64], p: usize, q: u
 {
     let first = transitions::offset(table, p);
     let end = transitions::offset(table, p + 1);
-    (first..end)
-        .find(|&i| !has_answer(table, grid, q, i))
-        .unwrap_or(end)
+    // A loop and not `find` with `unwrap_or`: with these test simulation took up to 1.3 times as long.
+    for i in first..end {
+        if !has_answer(table, grid, q, i) {
+            return i;
+        }
+    }
+    end
 }
 
 // Condition 1, the starting condition: the pair (p, q) is in the start.

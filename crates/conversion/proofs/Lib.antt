@@ -1,3 +1,4 @@
+pub mod Copies
 pub mod InKind
 pub mod Written
 pub mod Converted

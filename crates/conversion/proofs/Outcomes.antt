@@ -11,7 +11,7 @@ use Rattle.lts.specs.Rule.{◌otherwise◌, given, checked_reply, Answer}
 use Rattle.lts.proofs.Rule.{stop, pass, done, first_part, second-part, refuses, passes, second-checked, passed_on}
 use Rattle.encoding.specs.declared.Header.{Header}
 use Rattle.encoding.specs.Records.{IsBytes, header_of, of_kind, encoding_length}
-use Rattle.encoding.specs.Checked.{ReadableAs}
+use Rattle.encoding.specs.Checked.{Bounds, ReadableAs}
 use Rattle.encoding.specs.Encoding.{sheet_rules, read_encoding}
 use Rattle.encoding.proofs.Reader.{sheet-broken, sheet-kept}
 use Rattle.conversion.specs.Conversion.{in_kind, named_in_decimal, fits, to_named_rules, to_plain_rules, ConversionOutcome, conversion, to_named_call, to_plain_call, ToNamedPromise, ToPlainPromise}
@@ -19,6 +19,10 @@ use Rattle.conversion.proofs.Promise.{to-named-promised, to-plain-promised}
 use Rattle.std.specs.Prelude.{Ok, Err, IsErrAnd}
 
 -- ## The buffer's rule
+-- a header of the wanted kind is in range
+pub kind-bounds : {h g : Header} {named : Bool} → Bounds h → g ≡ of_kind named h → Bounds g
+kind-bounds b q = rw q (record { state = b.state; states = b.states; actions = b.actions; transitions = b.transitions })
+
 -- what `convert` says of its answer r and of the bytes o that it leaves
 abbrev Fills : Bool → List ℕ → List ℕ → Answer (Unit {0}) → List ℕ → Type 0
 Fills named s out r o = conversion named (fits named s out otherwise Buffer ∷ []) s out ≡ record { reply = checked_reply r; out = o }

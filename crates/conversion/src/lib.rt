@@ -1,7 +1,7 @@
 // Old sheets to named ones and back (document 02, L3). The page and move records stay as they are: no normal form is written.
 #![tactic(auto)]
 
-ghost use Rattle.std.specs.Prelude.{◌+◌, ◌<◌, ◌≤◌, ◌≡◌, [], ◌∷◌, ◌++◌, length};
+ghost use Rattle.std.specs.Prelude.{◌+◌, ◌-◌, ◌<◌, ◌≤◌, ◌≡◌, [], ◌∷◌, ◌++◌, length, take, drop};
 ghost use Rattle.std.proofs.lemmas.List.Edits.{sets};
 ghost use Rattle.lts.specs.Labels.{same_label};
 ghost use Rattle.lts.specs.declared.Refusal.TheVariants.{Buffer};
@@ -28,6 +28,18 @@ fn named_in_decimal(s: &[u8], h: encoding::Header) -> bool
     (0..h.actions).all(|i| name_in_decimal(s, h, i))
 }
 
+// Copies the last `size` bytes of s to the end of the buffer. An index loop and not `copy_from_slice`, as in `rows::row_copy`.
+fn copy_end(s: &[u8], size: usize, out: &mut [u8])
+    requires { (size ≤ length s.now) × (size ≤ length out.old) }
+    ensures { out.new ≡ take (length out.old - size) out.old ++ drop (length s.now - size) s.now }
+{
+    let n = s.len();
+    let m = out.len();
+    for left in (0..size).rev() {
+        out[m - 1 - left] = s[n - 1 - left];
+    }
+}
+
 // Writes what stands before the records in the wanted kind: the header and the names.
 fn put_front(s: &[u8], h: encoding::Header, named: bool, out: &mut [u8])
     requires { Sized s.now h × (state_at (of_kind named h) 0 ≤ length out.old) }
@@ -46,12 +58,11 @@ fn convert(s: &[u8], h: encoding::Header, named: bool, out: &mut [u8]) -> Result
     ensures { conversion named (fits named s.now out.old otherwise Buffer ∷ []) s.now out.old
         ≡ record { reply = checked_reply result; out = out.new } }
 {
-    let to = h.of_kind(named);
-    if out.len() != to.length() {
+    if out.len() != h.of_kind(named).length() {
         return Err(lts::Refusal::Buffer);
     }
     put_front(s, h, named, out);
-    out[to.state_at(0)..].copy_from_slice(&s[h.state_at(0)..]);
+    copy_end(s, s.len() - h.state_at(0), out);
     Ok(())
 }
 

@@ -1,6 +1,7 @@
 -- Labels and systems that a sheet can hold: those of a readable sheet, and the system of a table.
 use Prim.Native.Nat.{ℕ}
 use mathlib.Core.Path.{◌≡◌, sym, ap, ◌∙◌, subst}
+use mathlib.Core.Bool.{Bool}
 use mathlib.Core.List.{List}
 use lib.ListN.{length}
 use Rattle.encoding.specs.declared.Header.{Header}
@@ -8,11 +9,13 @@ use Rattle.encoding.specs.Records.{encoding_length}
 use Rattle.encoding.specs.Labels.{labelling_of}
 use Rattle.encoding.specs.Checked.{Bounds, ReadableAs}
 use Rattle.encoding.specs.Denotation.{lts_of}
+use Rattle.transitions.specs.Table.{table_lts, Formed}
 use Rattle.normal_form.specs.Normal.{normal_header, normal}
 use Rattle.normal_form.specs.NormalForm.{Labelled, Encodable}
 use Rattle.encoding.proofs.Reader.{reads}
 use Rattle.encoding.proofs.Denotation.{lts-ends}
 use Rattle.encoding.proofs.Laws.{denoted}
+use Rattle.transitions.proofs.Filled.{transitions-count}
 use Rattle.normal_form.proofs.Labelled.{normal-length, sheet-labelled}
 
 -- ## Of a readable sheet
@@ -39,3 +42,9 @@ sheet-encodable {s} {h} g =
 pub sheet-length : {s : List ℕ} {h : Header} → ReadableAs s h → length (normal (labelling_of s) (lts_of s)) ≡ length s
 sheet-length {s} g =
     normal-length (labelling_of s) (lts_of s) (sheet-encodable g).labelled ∙ ap encoding_length (labelled-header g) ∙ sym g.recorded.sized.long
+
+-- ## Of a table
+pub table-bounds : (t : List ℕ) → Formed t → (named : Bool) → Bounds (normal_header named (table_lts t))
+unfolding table_lts
+table-bounds t ok named =
+    record { state = ok.some; states = ok.states; actions = ok.labels; transitions = rw (transitions-count t ok) ok.size }

@@ -1,15 +1,13 @@
 -- The normal form of a table's system, written record by record.
-use Prim.Native.Nat.{ℕ, ◌+◌, ◌-◌, ◌*◌, ◌≤◌, ◌<◌}
-use mathlib.Core.Path.{◌≡◌, refl, sym, ap, ◌∙◌}
+use Prim.Native.Nat.{ℕ, ◌+◌, ◌*◌, ◌≤◌, ◌<◌}
+use mathlib.Core.Path.{◌≡◌, refl, sym, ap, ◌∙◌, subst}
 use mathlib.Core.Bool.{Bool, cond}
 use mathlib.Core.List.{List, ◌∷◌, ◌++◌}
 use native.Mathlib.Omega.{arith}
-use native.Mathlib.Nat.{zero-add}
+use native.Mathlib.Nat.{zero-add, add-zero}
 use native.Mathlib.Numerals.{add-one}
 use lib.ListN.{length, drop, length-append}
-use lib.Seq.{sets, sets-eq, take_all}
-use borrow.Rule.Slice.PartMut.{put_mid}
-use Rattle.std.proofs.lemmas.Slice.{put_mid-paste}
+use lib.Seq.{sets, sets-eq}
 use lib.Dec.{eqb}
 use Rattle.lts.specs.Bounded.{concat_below}
 use Rattle.lts.specs.System.{Lts}
@@ -19,13 +17,15 @@ use Rattle.encoding.specs.declared.Header.{Header}
 use Rattle.encoding.specs.declared.StateRecord.{StateRecord}
 use Rattle.encoding.specs.declared.TransitionRecord.{TransitionRecord}
 use Rattle.encoding.specs.Records.{header_bytes, state_bytes, transition_bytes, labels_length, state_at, transition_at, encoding_length}
+use Rattle.encoding.specs.Checked.{Bounds}
 use Rattle.transitions.specs.Table.{states_of, count_of, mark_at, offset_at, source_at, entry_at, table_lts, Formed}
 use Rattle.normal_form.specs.Normal.{first_index, next_index, normal_header, normal_state, normal_transition, states_bytes, transitions_bytes, sheet_bytes}
 use Rattle.normal_form.specs.Written.{Counts, transitions_from}
 use Rattle.transitions.proofs.Filled.{transitions-count}
 use Rattle.normal_form.proofs.Tables.{from_more, from-none}
 use Rattle.encoding.proofs.Parts.{header-length}
-use Rattle.normal_form.proofs.Bytes.{record-length, states-length, sheet-long}
+use Rattle.normal_form.proofs.Bytes.{record-length, states-length, sheet-long, mark-small}
+use Rattle.normal_form.proofs.Encodable.{table-bounds}
 
 -- ## State records, one after the other
 module _ (L : Lts) where
@@ -38,11 +38,8 @@ module _ (L : Lts) where
   unfolding states_bytes
   states-step base p o₀ o o' q e w = w ∙ rw (q, e, concat-more, sets-append, states-length L p)
 
--- ## A part of the buffer that was copied
-pub copied : (at : ℕ) (o l : List ℕ) {now : List ℕ} → now ≡ l → at + length l ≤ length o → put_mid at (at + length l - at) o now ≡ sets o at l
-copied at o l e room =
-    let n : length l ≡ at + length l - at = omega arith in
-    put_mid-paste at _ o _ l (length l) e n refl ∙ rw (take_all (length l) l (omega arith)) (sym (sets-eq l o at room))
+  pub states-end : (base p n : ℕ) (o₀ o : List ℕ) → o ≡ sets o₀ base (states_bytes L p) → n ≡ p → o ≡ sets o₀ (base + 4 * 0) (states_bytes L n)
+  states-end base p n o₀ o q e = q ∙ rw (e, add-zero)
 
 module _ (t : List ℕ) (ok : Formed t) where
   -- ## The header
@@ -55,7 +52,13 @@ module _ (t : List ℕ) (ok : Formed t) where
     named = sym kind i;
   }
 
+  pub counts-bounds : {h : Header} → Counts t h → Bounds h
+  counts-bounds {h} c = subst Bounds (counts-header c refl) (table-bounds t ok h.named)
+
   -- ## The record of a state
+  pub mark-byte : (p : ℕ) → p < states_of t → mark_at t p < 256
+  mark-byte p l = rw (ok.mark p l) (mark-small ((table_lts t).terminating p))
+
   pub state-is : (p : ℕ) → p < states_of t
       → record { mark = mark_at t p; spare = 0; first = first_index (offset_at t p) (offset_at t (p + 1)) } ≡ normal_state (table_lts t) p
   unfolding normal_state
@@ -88,6 +91,10 @@ module _ (t : List ℕ) (ok : Formed t) where
   transitions-step base i o o' l e w =
       let at : base + 6 * (i + 1) ≡ base + 6 * i + 6 = omega arith in
       rw (from_more t ok i l, w, e, at) (sym (one-record o (base + 6 * i) (i + 1) (entry_at t i) (transitions_from t (i + 1))))
+
+  pub transitions-start : (base : ℕ) (o : List ℕ)
+      → sets o (base + 6 * 0) (transitions_bytes (0 + 1) (transitions_from t 0)) ≡ sets o base (transitions_bytes 1 (transitions_from t 0))
+  transitions-start base o = let e : base + 6 * 0 ≡ base = omega arith in rw e
 
   pub transitions-end : (base i : ℕ) (o : List ℕ) → count_of t ≤ i → sets o (base + 6 * i) (transitions_bytes (i + 1) (transitions_from t i)) ≡ o
   unfolding transitions_bytes

@@ -67,6 +67,16 @@ fn table_header(table: &transitions::Table, named: bool) -> encoding::Header
     encoding::Header::new(n, m, transitions::count(table), named)
 }
 
+// Writes the label records. An index loop and not `copy_from_slice`, as in `rows::row_copy`.
+fn write_labels(out: &mut [u8], labels: &[u8])
+    requires { 6 + length labels.now ≤ length out.old }
+    ensures { out.new ≡ sets out.old 6 labels.now }
+{
+    for i in 0..labels.len() {
+        out[encoding::Header::BYTES + i] = labels[i];
+    }
+}
+
 // Writes the state records.
 fn write_states(out: &mut [u8], h: encoding::Header, table: &transitions::Table)
     requires { Formed table.now × Counts table.now h × (encoding_length h ≤ length out.old) }
@@ -104,8 +114,7 @@ pub fn write_table(table: &transitions::Table, named: bool, labels: &[u8], out: 
 {
     let h = table_header(table, named);
     h.put(out);
-    let at = encoding::Header::BYTES;
-    out[at..at + labels.len()].copy_from_slice(labels);
+    write_labels(out, labels);
     write_states(out, h, table);
     write_transitions(out, h, table);
 }

@@ -1,12 +1,12 @@
 -- Laws of blocks, of their representatives and of the pending ones. Assumes nothing.
 use mathlib.Core.Path.{◌≡◌, sym, ap, ap₂, ◌∙◌}
 use mathlib.Core.Bool.{Bool, true, false, cond, ◌&&◌, ◌||◌, xor, and-false}
-use mathlib.Core.List.{List}
+use mathlib.Core.List.{List, ◌++◌, append-nil}
 use mathlib.Core.Logic.{⊎_elim}
 use Prim.Native.Nat.{ℕ, ◌+◌, ◌*◌, ◌%◌, ◌≤◌, ◌<◌}
 use native.Mathlib.Omega.{arith}
 use lib.Dec.{eqb}
-use lib.ListN.{length, get_or, drop, replicate}
+use lib.ListN.{length, get_or, drop, drop_of_length-le, replicate}
 use Rattle.lts.specs.Bounded.{any_below, sum_below, count_below, list_below, passing, lowest}
 use Rattle.lts.specs.System.{Set, Rel, Lts, any_state}
 use Rattle.lts.specs.Refinement.{Relations, block, representative, is_representative, pending, chosen, block_count, representatives}
@@ -52,6 +52,12 @@ pub row-lowest-test : (n : ℕ) (g : List ℕ) (p : ℕ) {row : List ℕ} {w : �
 row-lowest-test n g p width e hp =
     ap₂ (λ (k : ℕ) (l : List ℕ). eqb (lowest (k * 64) (in_row l)) p) width e
     ∙ ap (λ (x : ℕ). eqb x p) (lowest-cong (row_words n * 64) _ _ (λ i. in_row-drop (row_words n) g p i)) ∙ lowest-test n (row_words n * 64) (relation_of n g p) p (omega arith) hp
+
+-- ---- a list that is filled to its end
+
+pub fill_done : (f : ℕ → ℕ) (d l : List ℕ) (j n : ℕ) → l ≡ list_below j f ++ drop j d → j ≡ n → length d ≡ n → l ≡ list_below n f
+fill_done f d l j n now end long =
+    now ∙ ap₂ (λ (k : ℕ) (t : List ℕ). list_below k f ++ t) end (drop_of_length-le d {i = j} (omega arith)) ∙ append-nil (list_below n f)
 
 -- ---- the blocks of the refinement rule, by matrices
 

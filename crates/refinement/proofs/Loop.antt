@@ -22,7 +22,7 @@ use Rattle.relation.specs.Matrix.{relation_of, matrix_of}
 use Rattle.relation.proofs.Matrices.{matrix_of-cong}
 use Rattle.sets.specs.Sets.{set_at, sets_of}
 use Rattle.sets.specs.Parts.{Parted, Owned}
-use Rattle.sets.proofs.Lists.{sets-in, sets-cong}
+use Rattle.sets.proofs.Lists.{sets-in, sets-cong, sets-long}
 use Rattle.transitions.specs.Table.{states_of, table_lts, Formed}
 use Rattle.transitions.proofs.Entries.{table-formed}
 use Rattle.adjacency.specs.Adjacency.{Index}
@@ -93,6 +93,15 @@ module _ {t start : List ℕ} (ok : Formed t) (st : Start (states_of t) start) w
   module _ {schedule : List ℕ} {steps : ℕ} {related viewed blocks : List ℕ} (state : State L from schedule steps related viewed blocks) where
     abbrev s : Relations
     s = relations_of n related viewed
+
+    pub long-related : length related ≡ 1024
+    long-related = sets-long 256 _ state.related-is
+
+    pub long-viewed : length viewed ≡ 1024
+    long-viewed = sets-long 256 _ state.viewed-is
+
+    pub long-blocks : length blocks ≡ 1024
+    long-blocks = sets-long 256 _ state.blocks_is
 
     pub steady : (b : ℕ) → Steady L b s
     unfolding table_lts

@@ -14,7 +14,7 @@ use Rattle.relation.specs.Matrix.{relation_of, Matrix, pair_count}
 use Rattle.relation.proofs.Matrices.{in_matrix-at}
 use Rattle.relation.proofs.Places.{sum-places}
 
-bits-pairs : (n : ℕ) (g : List ℕ) → Matrix n g → sum_below (n * row_words n) (λ j. count_below 64 (bit (get_or g j 0))) ≡ pair_count n (relation_of n g)
+pub bits-pairs : (n : ℕ) (g : List ℕ) → Matrix n g → sum_below (n * row_words n) (λ j. count_below 64 (bit (get_or g j 0))) ≡ pair_count n (relation_of n g)
 unfolding count_below pair_count
 bits-pairs n g ok =
     sum-mul n w (λ j. count_below 64 (bit (get_or g j 0)))

@@ -62,12 +62,14 @@ pub fn count_pairs(grid: &[u64], n: usize) -> usize
     grid.iter().map(|x| x.count_ones() as usize).sum()
 }
 
-// Copies a whole matrix.
+// Copies a whole matrix. An index loop and not `copy_from_slice`, as in `rows::row_copy`.
 pub fn copy_matrix(grid: &mut [u64], from: &[u64])
     requires { length from.now ≡ length grid.old }
     ensures { grid.new ≡ from.now }
 {
-    grid.copy_from_slice(from);
+    for j in 0..from.len() {
+        grid[j] = from[j];
+    }
 }
 
 // Puts the set that `row` holds in the place of row p.

@@ -96,6 +96,9 @@ compared-kept (Err r) = unpack-refused compare_places r
 pub check-kept : (p q depth : ℕ) → p < 65536 → q < 65536 → Kept check_places (given (p ∷ q ∷ depth ∷ []))
 check-kept p q depth l m = unpack-given (more 8 16 p (40 ∷ []) (q ∷ depth ∷ []) l (more 24 16 q [] (depth ∷ []) m (last 40 depth)))
 
+pub count_kept : (count : ℕ) → Kept one_place (given (count ∷ []))
+count_kept count = unpack-given (last 8 count)
+
 pub counts-kept : (c : Counts) → Small c → Kept coarsest_places (coarsest_reply (Ok c))
 unfolding coarsest_reply
 counts-kept c s =
@@ -112,10 +115,16 @@ pub one-packed : (v : ℕ) → 256 * v ≡ packed one_place (given (v ∷ []))
 unfolding packed placed
 one-packed v = omega arith
 
-pub compared-packed : (b : Bool) (steps : ℕ) → 256 * from_bool b + 65536 * steps ≡ packed compare_places (given (cond b 1 0 ∷ steps ∷ []))
+pub compared-packed : (value steps : ℕ) → 256 * value + 65536 * steps ≡ packed compare_places (given (value ∷ steps ∷ []))
 unfolding packed placed
-compared-packed true steps = omega arith
-compared-packed false steps = omega arith
+compared-packed value steps = omega arith
+
+pub no-packed : (steps : ℕ) → 65536 * steps ≡ packed compare_places (given (0 ∷ steps ∷ []))
+no-packed steps = omega (arith, compared-packed 0 steps)
+
+pub compared-bit : (b : Bool) (steps : ℕ) → 256 * from_bool b + 65536 * steps ≡ packed compare_places (given (cond b 1 0 ∷ steps ∷ []))
+compared-bit true steps = compared-packed 1 steps
+compared-bit false steps = compared-packed 0 steps
 
 -- at most 1
 pub bit-most : (b : Bool) {x : ℕ} → x ≡ from_bool b → x ≤ 1

@@ -4,11 +4,12 @@ use mathlib.Core.Path.{◌≡◌, refl, ◌∙◌}
 use mathlib.Core.Bool.{Bool, true, false, cond}
 use mathlib.Core.List.{List, [], ◌∷◌, ◌++◌, append_assoc, append-nil}
 use native.Mathlib.Nat.{pow-suc, add-zero, zero-lt-suc, not-suc-le-zero, le_of_suc-le-suc}
+use native.Mathlib.Numerals.{add-one}
 use native.Mathlib.Omega.{arith}
 use borrow.Author.Tests.{lt-ltb, le-ltb, ltb-true, ltb-false}
 use lib.Dec.{ltb}
 use lib.ListN.{length, get_or, take, drop, set, length-append, length-drop, take-append-drop, get_or-append}
-use lib.Seq.{append_snoc, drop-cons, set_at, length-take-le, take_at, drop_at, drop-drop}
+use lib.Seq.{append_snoc, take-suc, drop-cons, set_at, length-take-le, take_at, drop_at, drop-drop}
 use Rattle.report.specs.Decimal.{decimal_in, decimal, written}
 
 -- either there is one digit, or there are more
@@ -130,6 +131,12 @@ module _ (at : ℕ) (text buffer : List ℕ) where
       let e : at + (length text + length more) ≡ n + length more = omega arith in
       let l = front_length (omega arith) in
       rw (take_at (take at buffer ++ text) (drop n buffer) n l, ← drop-drop (length more) n (take at buffer ++ text ++ drop n buffer), drop_at (take at buffer ++ text) (drop n buffer) n l, drop-drop, length-append, e, ← append_assoc (take at buffer) text more)
+
+-- a turn of the loop that copies text
+pub written-copy : (at i : ℕ) (text buffer : List ℕ) → i < length text → at + i < length buffer → set (written at (take i text) buffer) (at + i) (get_or text i 0) ≡ written at (take (i + 1) text) buffer
+written-copy at i text buffer h l =
+    let e : length (take i text) ≡ i = length-take-le i text (omega arith) in
+    rw (add-one, take-suc text i 0 h) (rw e at (written_byte at (take i text) buffer (get_or text i 0) (rw e l)))
 
 -- a number of one digit written, and one digit more
 pub digit-one : (at x : ℕ) (buffer : List ℕ) → x < 10 → at < length buffer → set buffer at (48 + x) ≡ written at (decimal x) buffer

@@ -1,5 +1,5 @@
 -- Laws of the tests of rows: whether a bitwise operation on their words gives 0, and inclusion. Assumes nothing.
-use mathlib.Core.Path.{◌≡◌, refl, sym, ap, ◌∙◌}
+use mathlib.Core.Path.{◌≡◌, refl, sym, ap, ◌∙◌, subst}
 use mathlib.Core.Bool.{Bool, true, false, not, ◌&&◌, xor}
 use mathlib.Core.List.{List}
 use mathlib.Core.Logic.{⊎_elim}
@@ -15,26 +15,47 @@ use Rattle.std.specs.Bool.{MatchBool}
 use Rattle.std.specs.List.{range_with_len, AllWithin, HoldsAt}
 use Rattle.std.proofs.lemmas.List.FromFn.{get_or-range_with_len, length-range_with_len}
 use Rattle.lts.specs.Bounded.{any_below, ◌⇒◌}
-use Rattle.lts.proofs.Below.{all_yes, all-not, any-yes, any-no, any_some, clash, either}
+use Rattle.lts.proofs.Below.{all_yes, all-not, any-yes, any-no, any_some, clash, either, lt-or-ge}
 use Rattle.rows.specs.Rows.{bit, in_row, row_of, included_below}
 use Rattle.rows.proofs.Bits.{bit-of-zero}
 use Rattle.rows.proofs.Rows.{Bitwise, zip-joined, minus-bitwise, row-front, row_of-cong, in_row-of}
 use Rattle.rows.proofs.Counts.{trailing_lt, trailing_at}
 
--- ---- a test of two rows by a bitwise operation on their words: are the words 0?
+-- ---- numbers in blocks of 64
+
+pub block_more : (P : ℕ → Type 0) (c t : ℕ) → ((q : ℕ) → q < c * 64 → P q) → ((i : ℕ) → i < t → P (c * 64 + i)) → (q : ℕ) → q < c * 64 + t → P q
+block_more P c t below here q h =
+    ⊎_elim (λ (l : q < c * 64). below q l)
+    (λ (l : c * 64 ≤ q). let split : c * 64 + (q - c * 64) ≡ q = omega arith in subst P split (here (q - c * 64) (omega arith)))
+    (lt-or-ge q (c * 64))
+
+-- ---- a test of two rows by a bitwise operation on their words: is the word 0?
+
+module _ (op : ℕ → ℕ → ℕ) (β : Bool → Bool → Bool) (ok : Bitwise op β) (a b : List ℕ) (c : ℕ) (ha : get_or a c 0 < 2 ^ 64) (hb : get_or b c 0 < 2 ^ 64) where
+  at-bit : (i : ℕ) → i < 64 → β (in_row a (c * 64 + i)) (in_row b (c * 64 + i)) ≡ bit (op (get_or a c 0) (get_or b c 0)) i
+  at-bit i l = sym (zip-joined op β ok a b c ha hb i l)
+
+  -- it is not: some member is found
+  pub word-found : (k : ℕ) → c < k → (op (get_or a c 0) (get_or b c 0) ≡ 0 → ⊥) → true ≡ any_below (k * 64) (λ q. β (in_row a q) (in_row b q))
+  word-found k h ne =
+      let z = op (get_or a c 0) (get_or b c 0) in
+      let low = trailing_lt 64 z (ok.small _ _ ha hb) ne in
+      any-yes (k * 64) _ (c * 64 + count_trailing_zeros 64 z) (omega (arith, low)) (at-bit (count_trailing_zeros 64 z) low ∙ trailing_at 64 z low)
+
+  -- it is: none in this word
+  pub word-passed : op (get_or a c 0) (get_or b c 0) ≡ 0 → ((q : ℕ) → q < c * 64 → β (in_row a q) (in_row b q) ≡ false)
+      → (q : ℕ) → q < (c + 1) * 64 → β (in_row a q) (in_row b q) ≡ false
+  word-passed e none q h =
+      block_more (λ q. β (in_row a q) (in_row b q) ≡ false) c 64 none (λ i l. at-bit i l ∙ ap (λ (z : ℕ). bit z i) e ∙ bit-of-zero i) q (omega arith)
+
+pub none_passed : (k c : ℕ) (f : ℕ → Bool) → c ≡ k → ((q : ℕ) → q < c * 64 → f q ≡ false) → false ≡ any_below (k * 64) f
+none_passed k c f e none = any-no (k * 64) f (λ q h. none q (omega arith))
 
 module _ (op : ℕ → ℕ → ℕ) (β : Bool → Bool → Bool) (ok : Bitwise op β) (a b : List ℕ) (ha : (c : ℕ) → get_or a c 0 < 2 ^ 64) (hb : (c : ℕ) → get_or b c 0 < 2 ^ 64) where
   abbrev word : ℕ → ℕ
   word c = op (get_or a c 0) (get_or b c 0)
 
-  -- one is not: some member is found
-  pub word-found : (k c : ℕ) → c < k → (word c ≡ 0 → ⊥) → true ≡ any_below (k * 64) (λ q. β (in_row a q) (in_row b q))
-  word-found k c h ne =
-      let low = trailing_lt 64 (word c) (ok.small _ _ (ha c) (hb c)) ne in
-      any-yes (k * 64) _ (c * 64 + count_trailing_zeros 64 (word c)) (omega (arith, low))
-      (sym (zip-joined op β ok a b c (ha c) (hb c) (count_trailing_zeros 64 (word c)) low) ∙ trailing_at 64 (word c) low)
-
-  -- all are: there is none
+  -- the words are all 0: there is none
   pub words-none : (k : ℕ) → ((c : ℕ) → c < k → word c ≡ 0) → false ≡ any_below (k * 64) (λ q. β (in_row a q) (in_row b q))
   unfolding in_row
   words-none k e =
@@ -98,7 +119,7 @@ module _ (a b : List ℕ) (ha : (c : ℕ) → get_or a c 0 < 2 ^ 64) (hb : (c : 
   within-all k false (i, l, some) =
       let room : i < k = omega (arith, l, length-range_with_len 0 k) in
       let at = get_or-range_with_len 0 k i 0 room ∙ zero-add i in
-      ap not (word-found _ _ minus-bitwise a b ha hb k i room (λ e. some 0 (ap (outside a b) at ∙ e))) ∙ included-any (k * 64) (in_row a) (in_row b)
+      ap not (word-found _ _ minus-bitwise a b i (ha i) (hb i) k room (λ e. some 0 (ap (outside a b) at ∙ e))) ∙ included-any (k * 64) (in_row a) (in_row b)
 
   -- `!=`
   pub differs : (k : ℕ) → k ≤ length a → k ≤ length b → not (pointwise eqb (take k a) (take k b)) ≡ any_below (k * 64) (λ q. xor (in_row a q) (in_row b q))

@@ -119,15 +119,18 @@ pub fn row_count(row: &[u64], k: usize) -> usize
     row[..k].iter().map(|x| x.count_ones() as usize).sum()
 }
 
-// Writes the states of the first k words of `from` into the row.
+// Four loops of one line: one function over the operation would need a contract on which bits it gives, longer than they are.
+
+// Writes the states of the first k words of `from` into the row. An index loop and not `copy_from_slice`: that becomes a call of memmove,
+// which the archive for C does not need from outside.
 pub fn row_copy(row: &mut [u64], from: &[u64], k: usize)
     requires { (k ≤ length row.old) × (k ≤ length from.now) }
     ensures { row.new ≡ row_of k (in_row from.now) ++ drop k row.old }
 {
-    row[..k].copy_from_slice(&from[..k]);
+    for c in 0..k {
+        row[c] = from[c];
+    }
 }
-
-// Three loops of one line: one function over the operation would need a contract on which bits it gives, longer than they are.
 
 // Keeps only the states of `mask` in the row's first k words.
 pub fn row_intersect(row: &mut [u64], mask: &[u64], k: usize)

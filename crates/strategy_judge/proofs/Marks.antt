@@ -56,8 +56,9 @@ module _ (t : List ℕ) (ok : Formed t) (marks : ℕ → ℕ → ℕ) (p q a x :
 
 -- ---- an entry, test by test: n is the count of states, and `words` the start's
 
-pub matrix-on : (t words : List ℕ) {n : ℕ} → Judgeable t words → n ≡ states_of t → Matrix n words
-matrix-on t words can size = subst⁻¹ (λ (m : ℕ). Matrix m words) size can.1
+-- a table with a state is formed, and the start is a matrix on its states
+pub judgeable-some : (t words : List ℕ) {n p : ℕ} → Judgeable t words → n ≡ states_of t → p < n → Formed t × Matrix n words
+judgeable-some t words can size h = ⊎_elim (λ k. (k.0, subst⁻¹ (λ (m : ℕ). Matrix m words) size k.1)) (λ z. absurd (omega (arith, z, size, h))) can
 
 module _ (t words : List ℕ) (M : Rel) (e : Entry) {n : ℕ} (size : n ≡ states_of t) where
   abbrev S : Lts
@@ -137,13 +138,17 @@ sound-states L start M e h =
     (ltb-true _ _ (and-fst (ltb e.p L.states) (ltb e.q L.states) both), ltb-true _ _ (and-snd (ltb e.p L.states) (ltb e.q L.states) both))
 
 -- Soundness depends on the earlier entries only through the pairs below 256 that they hold: transitions lead to states, of which there are
--- at most 256.
+-- at most 256; and without states nothing is sound.
 abbrev pub Small : Lts → Rel → Type 0
-Small L start = WellFormed L × (L.states ≤ 256) × T (reflexive L start)
+Small L start = (WellFormed L × (L.states ≤ 256) × T (reflexive L start)) ⊎ (L.states ≡ 0)
 
 pub judgeable-small : (t words : List ℕ) → Judgeable t words → Small (table_lts t) (relation_of (states_of t) words)
 unfolding table_lts
-judgeable-small t words can = (table-formed t can.0, can.0.states, can.2)
+judgeable-small t words can = ⊎_elim (λ k. inl (table-formed t k.0, k.0.states, k.2)) (λ z. inr z) can
+
+-- with a state it is a system with a reflexive start
+pub small-some : (L : Lts) (start : Rel) {p : ℕ} → Small L start → p < L.states → WellFormed L × (L.states ≤ 256) × T (reflexive L start)
+small-some L start small h = ⊎_elim (λ k. k) (λ z. absurd (omega (arith, z, h))) small
 
 module _ (L : Lts) (start M N : Rel) (same : (p q : ℕ) → p < 256 → q < 256 → M p q ≡ N p q) (e : Entry) where
   replies-agree : L.states ≤ 256 → e.t < L.states → defender_loses L M e.q e.a e.t ≡ defender_loses L N e.q e.a e.t
@@ -158,6 +163,7 @@ module _ (L : Lts) (start M N : Rel) (same : (p q : ℕ) → p < 256 → q < 256
 
   pub sound-agree : Small L start → sound_on L start M e ≡ sound_on L start N e
   unfolding sound_on
-  sound-agree k =
+  sound-agree (inl k) =
       ap (λ (b : Bool). ltb e.p L.states && ltb e.q L.states && (outside start e.p e.q e.a e.t || b))
       (agree k.0 k.1 (either (L.transition e.p e.a e.t)))
+  sound-agree (inr z) = let none : L.states ≤ e.p = omega (arith, z) in rw (le-ltb e.p L.states none)

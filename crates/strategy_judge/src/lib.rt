@@ -1,6 +1,7 @@
 // The check of a strategy (document 01, "Check plan") whose entries come one by one, for callers that have them in another form than
 // numbers. A mark for each pair of the entries so far stands in for the search over them; 0 and not an `Option` says that there is none, since
-// `mark_over` and `entry_mark` of specs/ are of marks as numbers.
+// `mark_over` and `entry_mark` of specs/ are of marks as numbers. `check_each` judges what a function gives; `load`, `judge` and `conclude`
+// are its parts, for callers that judge one by one.
 #![tactic(auto)]
 
 ghost use Rattle.std.specs.Prelude.{◌≡◌, ℕ, List, cond, ◌&&◌, ◌<◌, ◌≤◌, length};
@@ -10,37 +11,61 @@ ghost use Rattle.transitions.specs.Table.{states_of, table_lts, Formed};
 ghost use Rattle.relation.specs.Matrix.{relation_of};
 ghost use Rattle.strategy_depth.specs.Marks.{mark_of, marked, entry_mark};
 ghost use Rattle.strategy.specs.Check.{check_reply, check_call};
-ghost use Rattle.strategy_judge.specs.Judging.{mark_over, Judges, Judgeable, Gives};
+ghost use Rattle.strategy_judge.specs.Judging.{mark_over, Judges, Judgeable, ReadBy, Loads, verdict_at, Concludes, Gives};
+
+// What was judged: the mark of each pair (p, q) at 256 * p + q; whether an entry was unsound; the last entry's pair and its depth.
+pub type Judged = [u16; 65540];
+
+// Where 1 says that an entry was unsound.
+const UNSOUND: usize = 65536;
+
+// Where the last entry's pair and its depth stand.
+const LAST_P: usize = 65537;
+
+const LAST_Q: usize = 65538;
+
+const DEPTH: usize = 65539;
+
+// The table of a sheet that was read; one without states where it was refused.
+pub fn load(s: &[u8], reading: Result<encoding::Header, lts::Refusal>) -> transitions::Table
+    requires { ReadBy s.now reading }
+    ensures { Loads s.now reading result }
+{
+    match reading {
+        Err(_) => [0u16; 3588],
+        Ok(h) => transitions::load(s, h),
+    }
+}
 
 // The mark of an entry p, q, a, t with a transition, by the marks: one more than its depth. It is 0 where p does not lead to t by a, or
 // where a reply has no mark.
 fn refuted_mark(
     table: &transitions::Table,
-    marks: &[u16],
+    judged: &[u16],
     p: usize,
     q: usize,
     a: usize,
     t: usize,
 ) -> usize
-    requires { let n = states_of table.now in Formed table.now × (p < n) × (q < n) × (t < n) × (65536 ≤ length marks.now) }
-    ensures { let L = table_lts table.now in let M = mark_of marks.now in
-        (result ≡ cond (L.transition p a t && defender_loses L (marked M) q a t) (entry_mark L M q a t) 0) × (result ≤ 65536) }
+    requires { let n = states_of table.now in Formed table.now × (p < n) × (q < n) × (t < n) × (65536 ≤ length judged.now) }
+    ensures { let L = table_lts table.now in let marks = mark_of judged.now in
+        (result ≡ cond (L.transition p a t && defender_loses L (marked marks) q a t) (entry_mark L marks q a t) 0) × (result ≤ 65536) }
 {
     if !rows::contains(&transitions::successors(table, p, a), t) {
         return 0;
     }
-    let depth = strategy_depth::reply_depth(table, marks, q, a, t);
+    let depth = strategy_depth::reply_depth(table, judged, q, a, t);
     if depth == 0 {
         return 0;
     }
     depth + 1
 }
 
-// The mark of the entry over those whose marks these are: one more than its depth, and 0 where it is unsound.
-fn mark_over(table: &transitions::Table, start: &[u64], marks: &[u16], e: lts::Entry) -> usize
-    requires { Judgeable table.now start.now × (65536 ≤ length marks.now) }
+// The mark of the entry over those that were judged: one more than its depth, and 0 where it is unsound.
+fn mark_over(table: &transitions::Table, start: &[u64], judged: &[u16], e: lts::Entry) -> usize
+    requires { Judgeable table.now start.now × (65536 ≤ length judged.now) }
     ensures { let T = table.now in
-        (result ≡ mark_over (table_lts T) (relation_of (states_of T) start.now) (mark_of marks.now) e) × (result ≤ 65536) }
+        (result ≡ mark_over (table_lts T) (relation_of (states_of T) start.now) (mark_of judged.now) e) × (result ≤ 65536) }
 {
     let n = transitions::states(table);
     let p = usize::from(e.p);
@@ -59,34 +84,55 @@ fn mark_over(table: &transitions::Table, start: &[u64], marks: &[u16], e: lts::E
     if n <= t {
         return 0;
     }
-    refuted_mark(table, marks, p, q, a, t)
+    refuted_mark(table, judged, p, q, a, t)
 }
 
-// Judges an entry over those before it, which are sound: the answer for all of them. The mark of its pair is lowered to its own.
-fn judge(
-    table: &transitions::Table,
-    start: &[u64],
-    marks: &mut [u16],
-    e: lts::Entry,
-) -> Result<strategy::Accepted, lts::Refusal>
-    requires { Judgeable table.now start.now × (65536 ≤ length marks.old) }
-    ensures { let T = table.now in Judges (table_lts T) (relation_of (states_of T) start.now) marks.old e result marks.new }
+// Judges an entry: its pair gets its mark, and it becomes the last one; or the verdict falls.
+pub fn judge(table: &transitions::Table, start: &[u64], judged: &mut Judged, e: lts::Entry)
+    requires { Judgeable table.now start.now × (length judged.old ≡ 65540) }
+    ensures { let T = table.now in (length judged.new ≡ 65540)
+        × Judges (table_lts T) (relation_of (states_of T) start.now) judged.old e judged.new }
 {
-    let mark = mark_over(table, start, marks, e);
+    let mark = mark_over(table, start, judged, e);
     if mark == 0 {
+        judged[UNSOUND] = 1;
+        return;
+    }
+    strategy_depth::lower(judged, usize::from(e.p), usize::from(e.q), mark);
+    judged[LAST_P] = e.p;
+    judged[LAST_Q] = e.q;
+    judged[DEPTH] = (mark - 1) as u16;
+}
+
+// The answer for `count` entries that were judged.
+fn answer(judged: &Judged, count: usize) -> Result<strategy::Accepted, lts::Refusal>
+    requires { length judged.now ≡ 65540 }
+    ensures { result ≡ verdict_at judged.now count }
+{
+    if (count == 0) | (judged[UNSOUND] == 1) {
         return Err(lts::Refusal::Unsound);
     }
-    let p = usize::from(e.p);
-    let q = usize::from(e.q);
-    strategy_depth::lower(marks, p, q, mark);
     Ok(strategy::Accepted {
-        p,
-        q,
-        depth: mark - 1,
+        p: usize::from(judged[LAST_P]),
+        q: usize::from(judged[LAST_Q]),
+        depth: usize::from(judged[DEPTH]),
     })
 }
 
-// Check plan on `count` entries, of which entry(i) is number i: they are judged one by one.
+// Check plan, after `count` entries were judged on a sheet and a start with this reading.
+pub fn conclude(
+    reading: Result<encoding::Header, lts::Refusal>,
+    judged: &Judged,
+    count: usize,
+) -> Result<strategy::Accepted, lts::Refusal>
+    requires { length judged.now ≡ 65540 }
+    ensures { Concludes reading judged.now count result }
+{
+    let _header = reading?;
+    answer(judged, count)
+}
+
+// Check plan on `count` entries, of which entry(i) is number i: they are judged one by one, up to the first unsound one.
 pub fn check_each<F: Fn(usize) -> lts::Entry>(
     s: &[u8],
     start: &[u64],
@@ -98,10 +144,12 @@ pub fn check_each<F: Fn(usize) -> lts::Entry>(
 {
     let h = inputs::read_inputs(s, start)?;
     let table = transitions::load(s, h);
-    let mut marks = [0u16; 65536];
-    let mut answer = Err(lts::Refusal::Unsound);
+    let mut judged = [0u16; 65540];
     for i in 0..count {
-        answer = Ok(judge(&table, start, &mut marks, entry(i))?);
+        judge(&table, start, &mut judged, entry(i));
+        if judged[UNSOUND] == 1 {
+            return Err(lts::Refusal::Unsound);
+        }
     }
-    answer
+    answer(&judged, count)
 }

@@ -119,7 +119,7 @@ module _ (t : List ℕ) (ok : Formed t) (start : List ℕ) where
         falls-at-none same = falls-never L R wf p q j s.related (sym count ∙ same ∙ s.count)
 
         module _ (other : rest ≡ left → ⊥) where
-          fewer : rest < left
+          pub fewer : rest < left
           unfolding table_lts
           fewer = let fall = pairs-fall L R j in let most : rest ≤ left = omega (arith, fall, count, s.count) in go (eq-or-lt_of_le most)
             where

@@ -4,7 +4,7 @@ use mathlib.Core.Path.{◌≡◌, refl, sym, ap, ◌∙◌, subst}
 use mathlib.Core.Bool.{Bool, true, false, ◌&&◌, ◌||◌, and-false}
 use mathlib.Core.List.{List}
 use native.Mathlib.Omega.{arith}
-use native.Mathlib.Nat.{le_refl, zero-add}
+use native.Mathlib.Nat.{le_refl, not-suc-le-zero, zero-add}
 use native.Mathlib.Decide.{ℕ_discrete}
 use lib.Dec.{eqb, ltb}
 use lib.ListN.{length, get_or, set, take, drop, replicate, length-set, length-replicate, get_or-replicate}
@@ -20,6 +20,29 @@ use Rattle.rows.specs.Rows.{Next}
 use Rattle.transitions.specs.Maps.{state_to, action_to, Raises, goes_to, first_to, next_to, Linked}
 
 -- ---- maps of actions, and maps that raise states
+
+-- action a + 1 is as it is, too
+pub keeps-action : (to : List ℕ) (a : ℕ) → a < 64 → length to ≡ 65 → ((b : ℕ) → 1 ≤ b → b ≤ a → get_or to b 0 ≡ b)
+    → (b : ℕ) → 1 ≤ b → b ≤ a + 1 → get_or (set to (a + 1) (a + 1)) b 0 ≡ b
+keeps-action to a low long kept b l k = go (ℕ_discrete b (a + 1))
+  where
+    go : Dec (b ≡ a + 1) → get_or (set to (a + 1) (a + 1)) b 0 ≡ b
+    go (yes e) = rw e (get_or-set_same to (a + 1) (a + 1) 0 (omega (arith, low, long)))
+    go (no e) = get_or-set_other to (a + 1) b (a + 1) 0 e ∙ kept b l (omega (arith, k, e))
+
+pub raises-start : {shift : ℕ} {to maps : List ℕ} → length maps ≡ 321 → Raises 0 0 shift to maps
+raises-start e = record { long = e; state = λ p l. absurd (not-suc-le-zero l); action = λ a l k. absurd (omega (arith, l, k)) }
+
+pub raises-state : {shift : ℕ} {to maps : List ℕ} (p : ℕ) → p < 256 → Raises p 0 shift to maps → Raises (p + 1) 0 shift to (set maps p (shift + p))
+raises-state {shift} {to} {maps} p low r = record {
+  long = length-set maps p (shift + p) ∙ r.long;
+  state = λ q l. go q (omega (arith, l)) (ℕ_discrete q p);
+  action = λ a l k. absurd (omega (arith, l, k));
+}
+  where
+    go : (q : ℕ) → q ≤ p → Dec (q ≡ p) → state_to (set maps p (shift + p)) q ≡ shift + q
+    go q l (yes e) = rw e (get_or-set_same maps p (shift + p) 0 (omega (arith, low, r.long)))
+    go q l (no e) = get_or-set_other maps p q (shift + p) 0 e ∙ r.state q (omega (arith, l, e))
 
 -- in a list with a part replaced, what is before the part, and what is in it
 put-below : (at k i : ℕ) (xs ys : List ℕ) → i < at → at ≤ length xs → get_or (put_mid at k xs ys) i 0 ≡ get_or xs i 0
@@ -166,6 +189,11 @@ module _ {n : ℕ} {maps links : List ℕ} (p : ℕ) (g : Linking n maps (p + 1)
       next-at q u v (yes e) = rw (e, at_next, ← is) (g.first i low)
       next-at q u v (no e) =
           rw (at_other (256 + q) (λ f. omega (arith, f, low)) (λ f. e (omega (arith, f)))) (g.next q (omega (arith, u, e)) v)
+
+pub linking-done : {n : ℕ} {maps : List ℕ} {p : ℕ} {links : List ℕ} → Linking n maps p links → p ≡ 0 → Linked n maps links
+linking-done {n} {maps} {links = links} g e =
+    let h = subst (λ (x : ℕ). Linking n maps x links) e g in
+    record { first = h.first; next = λ q l. h.next q (omega arith) l }
 
 -- ---- a test of the states that go to one state, from one to the next
 

@@ -16,7 +16,7 @@ use Rattle.lts.proofs.System.{into-to, into-from}
 use Rattle.rows.specs.Rows.{in_row, row_of}
 use Rattle.rows.proofs.Rows.{gathered, picked, picked_all, row_of-cong, in_row-of, in_row-zeros}
 use Rattle.transitions.specs.Table.{states_of, count_of, mark_at, offset_at, source_at, action_at, target_at, is_entry, enters, table_lts, Formed}
-use Rattle.transitions.proofs.Entries.{eqb_of, entry-leads, entry_of, table-formed, offset-most, InRow, Between, between_more, row-transition, transition-row}
+use Rattle.transitions.proofs.Entries.{eqb_of, entry-leads, entry_of, table-formed, offset-most, InRow, Between, between_none, between_more, row-transition, transition-row}
 
 -- what was gathered, by another test of the same states
 pub gathered-same : (H : ℕ → ℕ → Bool) (i : ℕ) (S : Set) → ((q : ℕ) → q < 256 → any_below i (H q) ≡ S q) → gathered (replicate 4 0) H i ≡ row_of 4 S
@@ -127,6 +127,9 @@ module _ (t : List ℕ) (a : ℕ) (X : Set) where
   pub record Looked (p i : ℕ) (found : Bool) : Type 0 where
     pub some : found ≡ true → true ≡ into (table_lts t) a X p
     pub none : found ≡ false → Between (λ j. enters t a X j ≡ false) (offset_at t p) i
+
+  pub looked-start : (p i : ℕ) → i ≤ offset_at t p → Looked p i false
+  looked-start p i l = record { some = λ e. absurd (clash e refl); none = λ _. between_none _ _ _ l }
 
   module _ (ok : Formed t) (p : ℕ) (hp : p < states_of t) where
     into-found : (i : ℕ) → InRow t ok p i → enters t a X i ≡ true → true ≡ into (table_lts t) a X p

@@ -5,7 +5,7 @@ use native.Mathlib.Omega.{arith}
 use lib.ListN.{get_or}
 use Rattle.rows.specs.Rows.{row_of}
 use Rattle.adjacency.proofs.Lookups.{found, found_none, found-more, found-into}
-use Rattle.adjacency.proofs.Words.{join-begin, join_more, join-end}
+use Rattle.adjacency.proofs.Words.{join-row, join_more, join-end}
 use Rattle.adjacency.proofs.sources_into.Invariants.{sources_at}
 use Rattle.adjacency.proofs.sources_into.Goals as goal
 
@@ -16,7 +16,7 @@ pub loop-i-init : goal.loop-i-init
 loop-i-init c =
     let word = get_or c.meet-into.result c.loop-c.c 0 in
     rw (c.into_iter-i-iterator.ensures.into_iter_gives, c.ones-i-items.ensures)
-    (join-begin word c.loop-c.out (sources_at c.args.places.now c.args.rows.now c.args.a c.loop-c.c) _ c.loop-c.invariant c.loop-c-test.element_fits.fits)
+    (join-row word c.loop-c.out (sources_at c.args.places.now c.args.rows.now c.args.a c.loop-c.c) _ c.loop-c.invariant c.loop-c-test.element_fits.fits)
 
 pub loop-i-preserved : goal.loop-i-preserved
 loop-i-preserved c =

@@ -1,11 +1,12 @@
 -- `normal_form::write_table` meets its contract: header, label records, state records and transition records follow each other.
-use Prim.Native.Nat.{◌+◌, ◌≤◌}
 use mathlib.Core.Path.{ap}
-use lib.ListN.{length}
 use Rattle.encoding.specs.Records.{encoding_length}
-use Rattle.normal_form.proofs.Written.{counts-header, copied, whole}
+use Rattle.normal_form.proofs.Written.{counts-header, whole}
 use borrow.Author.Rules.{rules}
 use Rattle.normal_form.proofs.write_table.Goals as goal
+
+pub write_labels-requires : goal.write_labels-requires
+write_labels-requires c = let long = c.requires.1 in search rules
 
 pub write_states-requires : goal.write_states-requires
 write_states-requires c = let size = ap encoding_length (counts-header c.args.table.now c.requires.0 c.table_header-h.ensures.0 c.table_header-h.ensures.1) in
@@ -17,6 +18,5 @@ write_transitions-requires c = let size = ap encoding_length (counts-header c.ar
 
 pub returns : goal.returns
 returns c =
-    let room : 6 + length c.args.labels.now ≤ length c.put.new.out = search rules in
-    rw (c.write_transitions.ensures, c.write_states.ensures, copied 6 c.put.new.out c.args.labels.now c.copy_from_slice.ensures.after room, c.put.ensures)
+    rw (c.write_transitions.ensures, c.write_states.ensures, c.write_labels.ensures, c.put.ensures)
     (whole c.args.table.now c.requires.0 c.table_header-h.ensures.0 c.table_header-h.ensures.1 _ c.requires.1 _ c.requires.2)

@@ -3,7 +3,7 @@ use native.Mathlib.Omega.{arith}
 use mathlib.Core.Path.{ap, ◌∙◌}
 use Rattle.comparison.specs.Call.{compare_reply}
 use Rattle.release.specs.Packed.{compare_places}
-use Rattle.release.proofs.Replies.{packs-same, refused-packed, bit-most, compared-packed}
+use Rattle.release.proofs.Replies.{packs-same, refused-packed, bit-most, compared-bit}
 use Rattle.release.proofs.pack_compared.Goals as goal
 
 pub overflow_mul-result-in-Ok : goal.overflow_mul-result-in-Ok
@@ -21,4 +21,4 @@ returns-in-Err c =
 
 pub returns-in-Ok : goal.returns-in-Ok
 unfolding compare_reply
-returns-in-Ok c = rw c.from.ensures (packs-same compare_places compare_reply c.in-Ok.is (compared-packed c.in-Ok.c.related c.in-Ok.c.steps))
+returns-in-Ok c = rw c.from.ensures (packs-same compare_places compare_reply c.in-Ok.is (compared-bit c.in-Ok.c.related c.in-Ok.c.steps))
